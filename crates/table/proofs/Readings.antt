@@ -1,0 +1,50 @@
+-- What a test of a reading's variant says of its outcome: `Accepted` accepts, and every other variant refuses, so that nothing after it counts.
+-- Assumes nothing.
+use mathlib.Core.Path.{_≡_, refl, _∙_, ap, sym}
+use mathlib.Core.List.{List, [], _∷_}
+use Prim.Native.Nat.{ℕ, _+_, _-_, _<_}
+use native.Mathlib.Omega.{arith}
+use denote.Enum.Declared.{tagOf, declared}
+use types.Run.{OneOf, miss}
+use Rattle.table.specs.declared.Reading.{Reading}
+use Rattle.table.specs.declared.Reading.the-variants.{Accepted, Short, Edition, Counts, Directory, Length, Kind, Range, Listed, Unused}
+use Rattle.table.specs.Outcome.{Outcome, accepted, _⨾_, each}
+use Rattle.table.specs.Answer.{outcome}
+use Rattle.table.proofs.Reading.{enum}
+use Rattle.table.proofs.Checks.{each-next}
+
+abbrev variant : Reading → ℕ
+variant r = tagOf (declared enum) r
+
+-- the variants after `Accepted`
+abbrev refusals : List ℕ
+refusals = 1 ∷ 2 ∷ 3 ∷ 4 ∷ 5 ∷ 6 ∷ 7 ∷ 8 ∷ 9 ∷ []
+
+pub accepts : (r : Reading) → variant r ≡ 0 → outcome r ≡ accepted
+accepts Accepted e = refl
+accepts Short e = absurd (omega arith)
+accepts Edition e = absurd (omega arith)
+accepts Counts e = absurd (omega arith)
+accepts Directory e = absurd (omega arith)
+accepts Length e = absurd (omega arith)
+accepts (Kind at) e = absurd (omega arith)
+accepts (Range at) e = absurd (omega arith)
+accepts (Listed at) e = absurd (omega arith)
+accepts (Unused at) e = absurd (omega arith)
+
+pub refuses : (r : Reading) → OneOf refusals (variant r) → (after : Outcome) → (outcome r ⨾ after) ≡ outcome r
+refuses Accepted h after = absurd (miss refusals 0 tt h)
+refuses Short h after = refl
+refuses Edition h after = refl
+refuses Counts h after = refl
+refuses Directory h after = refl
+refuses Length h after = refl
+refuses (Kind at) h after = refl
+refuses (Range at) h after = refl
+refuses (Listed at) h after = refl
+refuses (Unused at) h after = refl
+
+-- a loop at i of n whose check is what a reading says: a reading that refuses is the outcome
+pub each-reads : (f : ℕ → Outcome) (n i : ℕ) → i < n → (r : Reading) → outcome r ≡ f i → OneOf refusals (variant r) → each f (n - i) i ≡ outcome r
+each-reads f n i h r e refusal =
+    each-next f n i h ∙ ap (λ (o : Outcome). o ⨾ each f (n - (i + 1)) (i + 1)) (sym e) ∙ refuses r refusal (each f (n - (i + 1)) (i + 1))

@@ -1,0 +1,63 @@
+-- What the layer above may rely on of an accepted table, and nothing else: every count, offset and number in an action is in range.
+-- Assumes nothing.
+use Prim.Native.Nat.{ℕ, _+_, _*_, _<_, _≤_}
+use mathlib.Core.Path.{_≡_}
+use mathlib.Core.Bool.{Bool, true, false}
+use mathlib.Core.List.{List, [], _∷_}
+use lib.ListN.{length, getD}
+use Rattle.table.specs.declared.Action.{Action}
+use Rattle.table.specs.declared.Action.the-variants.{Set, Add, Lesser, Send, Receive, TestAny, WaitAny, Lock, Unlock, MutexTest, MutexWait}
+use Rattle.table.specs.declared.Numbers.{Numbers}
+use Rattle.table.specs.Format.{actorsOf, mailboxesOf, mutexesOf, offsetOf, countOf}
+use Rattle.table.specs.Decode.{actionOf}
+
+-- the i-th number of a list
+abbrev pub number : Numbers → ℕ → ℕ
+number l i = getD (l .n0 ∷ l .n1 ∷ l .n2 ∷ l .n3 ∷ []) i 0
+
+-- a list has one to four numbers, each of which is right
+pub record Listing (Right : ℕ → Type 0) (l : Numbers) : Type 0 where
+  pub least : 1 ≤ l .count
+  pub most : l .count ≤ 4
+  pub right : (i : ℕ) → i < l .count → Right (number l i)
+
+-- Send or Receive
+abbrev pub isPost : Action → Bool
+isPost (Set cell value) = false
+isPost (Add cell other) = false
+isPost (Lesser cell other) = false
+isPost (Send mailbox cell) = true
+isPost (Receive mailbox cell) = true
+isPost (TestAny result list) = false
+isPost (WaitAny result list) = false
+isPost (Lock mutex) = false
+isPost (Unlock mutex) = false
+isPost (MutexTest result list) = false
+isPost (MutexWait result list) = false
+
+-- x is a lower Send or Receive of the same actor
+abbrev pub LowerPost : List ℕ → ℕ → ℕ → ℕ → Type 0
+LowerPost b actor k x = (x < k) × (isPost (actionOf b actor x) ≡ true)
+
+-- action k of an actor names only what the table has
+abbrev pub InRange : List ℕ → ℕ → ℕ → Action → Type 0
+InRange b actor k (Set cell value) = cell < 8
+InRange b actor k (Add cell other) = (cell < 8) × (other < 8)
+InRange b actor k (Lesser cell other) = (cell < 8) × (other < 8)
+InRange b actor k (Send mailbox cell) = (mailbox < mailboxesOf b) × (cell < 8)
+InRange b actor k (Receive mailbox cell) = (mailbox < mailboxesOf b) × (cell < 8)
+InRange b actor k (TestAny result list) = (result < 8) × Listing (LowerPost b actor k) list
+InRange b actor k (WaitAny result list) = (result < 8) × Listing (LowerPost b actor k) list
+InRange b actor k (Lock mutex) = mutex < mutexesOf b
+InRange b actor k (Unlock mutex) = mutex < mutexesOf b
+InRange b actor k (MutexTest result list) = (result < 8) × Listing (λ m. m < mutexesOf b) list
+InRange b actor k (MutexWait result list) = (result < 8) × Listing (λ m. m < mutexesOf b) list
+
+pub record Accepted (b : List ℕ) : Type 0 where
+  pub actors-least : 1 ≤ actorsOf b
+  pub actors-most : actorsOf b ≤ 8
+  pub mailboxes-most : mailboxesOf b ≤ 8
+  pub mutexes-most : mutexesOf b ≤ 8
+  pub actions-most : (actor : ℕ) → actor < actorsOf b → countOf b actor ≤ 32
+  pub inside : (actor : ℕ) → actor < actorsOf b → offsetOf b actor + 8 * countOf b actor ≤ length b
+  pub in-range : (actor k : ℕ) → actor < actorsOf b → k < countOf b actor → InRange b actor k (actionOf b actor k)

@@ -1,0 +1,200 @@
+//! Tables made to measure: first a shape, then actions that suit it.
+
+use crate::rng::Rng;
+use reference::kind;
+
+/// Document 01's table A.
+pub const TABLE_A: [u8; 44] = [
+    1, 2, 1, 0, //
+    12, 0, 2, 0, 28, 0, 2, 0, //
+    0, 0, 0, 0, 0x95, 0, 0, 0, //
+    3, 0, 0, 0, 0, 0, 0, 0, //
+    4, 0, 2, 0, 0, 0, 0, 0, //
+    6, 3, 0, 1, 0, 0, 0, 0,
+];
+
+/// How many of everything a table has.
+#[derive(Clone, Debug)]
+pub struct Shape {
+    /// The number of mailboxes.
+    pub mailboxes: u8,
+    /// The number of mutexes.
+    pub mutexes: u8,
+    /// Each actor's number of actions.
+    pub counts: Vec<usize>,
+}
+
+impl Shape {
+    /// Eight of everything and 32 actions for each actor: 2,084 bytes.
+    pub fn maximal() -> Self {
+        Self {
+            mailboxes: 8,
+            mutexes: 8,
+            counts: vec![32; 8],
+        }
+    }
+
+    /// One to three actors with up to seven actions each.
+    pub fn small(rng: &mut Rng) -> Self {
+        let actors = rng.between(1, 3);
+        Self {
+            mailboxes: rng.between(0, 3) as u8,
+            mutexes: rng.between(0, 3) as u8,
+            counts: (0..actors).map(|_| rng.between(0, 7)).collect(),
+        }
+    }
+
+    /// Any shape that a table can have: small, full, or with actors that have nothing to do.
+    pub fn any(rng: &mut Rng) -> Self {
+        if rng.once_in(3) {
+            return Self::small(rng);
+        }
+        if rng.once_in(20) {
+            return Self::maximal();
+        }
+        let actors = rng.between(1, 8);
+        let most = rng.pick(&[1, 4, 8, 32]);
+        let count = |rng: &mut Rng| match rng.below(6) {
+            0 => 0,
+            1 => most,
+            _ => rng.between(0, most),
+        };
+        Self {
+            mailboxes: rng.between(0, 8) as u8,
+            mutexes: rng.between(0, 8) as u8,
+            counts: (0..actors).map(|_| count(rng)).collect(),
+        }
+    }
+
+    /// A shape with one number too large, or without actors: its table is whole but for that.
+    pub fn outsized(rng: &mut Rng) -> Self {
+        let mut shape = Self::small(rng);
+        match rng.below(5) {
+            0 => shape.counts.clear(),
+            1 => shape.counts.resize(rng.between(9, 12), 1),
+            2 => shape.mailboxes = rng.between(9, 12) as u8,
+            3 => shape.mutexes = rng.between(9, 12) as u8,
+            _ => {
+                let actor = rng.below(shape.counts.len());
+                // 256 and more have a low byte that is in range.
+                shape.counts[actor] = rng.pick(&[33, 34, 40, 64, 255, 256, 257, 288]);
+            }
+        }
+        shape
+    }
+}
+
+/// An action's place in a table.
+#[derive(Clone, Copy, Debug)]
+pub struct Place {
+    /// Its number within its actor.
+    pub index: usize,
+    /// Where its eight bytes begin.
+    pub offset: usize,
+    /// Where its actor's first action begins.
+    pub first: usize,
+}
+
+/// A table and the shape that it was made from.
+#[derive(Clone, Debug)]
+pub struct Sample {
+    /// The shape.
+    pub shape: Shape,
+    /// The table.
+    pub bytes: Vec<u8>,
+}
+
+impl Sample {
+    /// A table of `shape` whose every action is right.
+    pub fn new(rng: &mut Rng, shape: Shape) -> Self {
+        let actors = shape.counts.len();
+        let mut bytes = vec![1, actors as u8, shape.mailboxes, shape.mutexes];
+        let mut end = 4 + 4 * actors;
+        for &count in &shape.counts {
+            bytes.extend((end as u16).to_le_bytes());
+            bytes.extend((count as u16).to_le_bytes());
+            end += 8 * count;
+        }
+        for &count in &shape.counts {
+            let mut posts = Vec::new();
+            for index in 0..count {
+                let action = action(rng, &shape, &posts);
+                if action[0] == kind::SEND || action[0] == kind::RECEIVE {
+                    posts.push(index as u8);
+                }
+                bytes.extend(action);
+            }
+        }
+        Self { shape, bytes }
+    }
+
+    /// The place of one of the actions, if there are any.
+    pub fn place(&self, rng: &mut Rng) -> Option<Place> {
+        let total: usize = self.shape.counts.iter().sum();
+        if total == 0 {
+            return None;
+        }
+        let mut index = rng.below(total);
+        let mut first = 4 + 4 * self.shape.counts.len();
+        for &count in &self.shape.counts {
+            if index < count {
+                let offset = first + 8 * index;
+                return Some(Place {
+                    index,
+                    offset,
+                    first,
+                });
+            }
+            index -= count;
+            first += 8 * count;
+        }
+        None
+    }
+}
+
+/// An action of any kind that `shape` and the actor's `posts` so far allow.
+fn action(rng: &mut Rng, shape: &Shape, posts: &[u8]) -> [u8; 8] {
+    let code = loop {
+        let code = rng.below(usize::from(kind::COUNT)) as u8;
+        let possible = match code {
+            kind::SEND | kind::RECEIVE => shape.mailboxes > 0,
+            kind::TEST_ANY | kind::WAIT_ANY => !posts.is_empty(),
+            kind::LOCK | kind::UNLOCK | kind::MUTEX_TEST | kind::MUTEX_WAIT => shape.mutexes > 0,
+            _ => true,
+        };
+        if possible {
+            break code;
+        }
+    };
+    let mut action = [code, cell(rng), 0, 0, 0, 0, 0, 0];
+    match code {
+        kind::SET => action[4..].fill_with(|| rng.byte()),
+        kind::ADD | kind::LESSER => action[2] = cell(rng),
+        kind::SEND | kind::RECEIVE => {
+            action[1] = rng.below(usize::from(shape.mailboxes)) as u8;
+            action[2] = cell(rng);
+        }
+        kind::TEST_ANY | kind::WAIT_ANY => list(rng, &mut action, |rng| rng.pick(posts)),
+        kind::LOCK | kind::UNLOCK => action[1] = rng.below(usize::from(shape.mutexes)) as u8,
+        _ => list(rng, &mut action, |rng| {
+            rng.below(usize::from(shape.mutexes)) as u8
+        }),
+    }
+    action
+}
+
+/// A cell's number.
+fn cell(rng: &mut Rng) -> u8 {
+    rng.below(8) as u8
+}
+
+/// Gives an action a list; every fourth repeats one number.
+fn list(rng: &mut Rng, action: &mut [u8; 8], mut number: impl FnMut(&mut Rng) -> u8) {
+    let z = rng.between(1, 4);
+    action[3] = z as u8;
+    action[4..4 + z].fill_with(|| number(rng));
+    if rng.once_in(4) {
+        let first = action[4];
+        action[4..4 + z].fill(first);
+    }
+}

@@ -1,0 +1,88 @@
+//! An action taken apart.
+
+use crate::kind;
+
+/// One to four numbers, of actions or of mutexes.
+#[derive(Clone, Copy, PartialEq, Eq, Debug)]
+pub struct List {
+    length: u8,
+    numbers: [u8; 4],
+}
+
+impl List {
+    /// The numbers, in the table's order.
+    pub fn numbers(&self) -> &[u8] {
+        &self.numbers[..usize::from(self.length)]
+    }
+}
+
+/// An action of an accepted table. Cells, mailboxes, mutexes and listed numbers exist.
+#[derive(Clone, Copy, PartialEq, Eq, Debug)]
+#[allow(missing_docs)]
+pub enum Action {
+    /// `cell` becomes `value`.
+    Set { cell: u8, value: u32 },
+    /// `cell` becomes its sum with `other`, modulo 2^32.
+    Add { cell: u8, other: u8 },
+    /// `cell` becomes the smaller of itself and `other`.
+    Lesser { cell: u8, other: u8 },
+    /// Sends what `cell` holds to `mailbox`.
+    Send { mailbox: u8, cell: u8 },
+    /// Asks `mailbox` for a value, meant for `cell`.
+    Receive { mailbox: u8, cell: u8 },
+    /// Writes the first done place of `actions`, or 0, into `result`.
+    TestAny { result: u8, actions: List },
+    /// The same, once one is done.
+    WaitAny { result: u8, actions: List },
+    /// Joins the queue of `mutex`.
+    Lock { mutex: u8 },
+    /// Leaves the queue of `mutex`.
+    Unlock { mutex: u8 },
+    /// Writes the first owned place of `mutexes`, or 0, into `result`.
+    MutexTest { result: u8, mutexes: List },
+    /// The same, once one is owned.
+    MutexWait { result: u8, mutexes: List },
+}
+
+impl Action {
+    /// The action that eight bytes of an accepted table give.
+    pub(crate) fn decode(bytes: [u8; 8]) -> Self {
+        let [code, p, q, z, numbers @ ..] = bytes;
+        let list = List { length: z, numbers };
+        match code {
+            kind::SET => Self::Set {
+                cell: p,
+                value: u32::from_le_bytes(numbers),
+            },
+            kind::ADD => Self::Add { cell: p, other: q },
+            kind::LESSER => Self::Lesser { cell: p, other: q },
+            kind::SEND => Self::Send {
+                mailbox: p,
+                cell: q,
+            },
+            kind::RECEIVE => Self::Receive {
+                mailbox: p,
+                cell: q,
+            },
+            kind::TEST_ANY => Self::TestAny {
+                result: p,
+                actions: list,
+            },
+            kind::WAIT_ANY => Self::WaitAny {
+                result: p,
+                actions: list,
+            },
+            kind::LOCK => Self::Lock { mutex: p },
+            kind::UNLOCK => Self::Unlock { mutex: p },
+            kind::MUTEX_TEST => Self::MutexTest {
+                result: p,
+                mutexes: list,
+            },
+            kind::MUTEX_WAIT => Self::MutexWait {
+                result: p,
+                mutexes: list,
+            },
+            _ => unreachable!("an accepted table has kinds 0 to 10"),
+        }
+    }
+}

@@ -1,0 +1,58 @@
+//! A table that the reader accepted.
+
+use crate::action::Action;
+
+/// An accepted table, seen in its bytes. Only [`crate::check`] makes one.
+#[derive(Clone, Copy, Debug)]
+pub struct Table<'a> {
+    bytes: &'a [u8],
+}
+
+impl<'a> Table<'a> {
+    /// The view of bytes that the reader accepted.
+    pub(crate) fn of_accepted(bytes: &'a [u8]) -> Self {
+        Self { bytes }
+    }
+
+    /// The table's bytes.
+    pub fn bytes(&self) -> &'a [u8] {
+        self.bytes
+    }
+
+    /// How many actors there are, 1 to 8.
+    pub fn actors(&self) -> usize {
+        usize::from(self.bytes[1])
+    }
+
+    /// How many mailboxes there are, 0 to 8.
+    pub fn mailboxes(&self) -> usize {
+        usize::from(self.bytes[2])
+    }
+
+    /// How many mutexes there are, 0 to 8.
+    pub fn mutexes(&self) -> usize {
+        usize::from(self.bytes[3])
+    }
+
+    /// How many actions `actor` has, 0 to 32. Panics where there is no such actor.
+    pub fn actions(&self, actor: usize) -> usize {
+        self.entry(actor).1
+    }
+
+    /// Action `index` of `actor`. Panics where there is none.
+    pub fn action(&self, actor: usize, index: usize) -> Action {
+        let (offset, count) = self.entry(actor);
+        assert!(index < count, "actor {actor} has no action {index}");
+        let (own, _) = self.bytes[offset..].as_chunks::<8>();
+        Action::decode(own[index])
+    }
+
+    /// The directory's entry for `actor`: offset and number of actions.
+    fn entry(&self, actor: usize) -> (usize, usize) {
+        assert!(actor < self.actors(), "there is no actor {actor}");
+        let (entries, _) = self.bytes[4..].as_chunks::<4>();
+        let [low, high, count, _] = entries[actor];
+        let offset = u16::from_le_bytes([low, high]);
+        (usize::from(offset), usize::from(count))
+    }
+}
