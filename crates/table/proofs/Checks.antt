@@ -1,10 +1,10 @@
 -- Laws of checks that follow one another: what an accepted sequence says of each check, and how a loop runs through `each`.
 -- Assumes nothing.
-use mathlib.Core.Path.{_≡_, refl, _∙_, ap, sym, subst}
+use mathlib.Core.Path.{_≡_, refl, _∙_, ap, sym}
 use mathlib.Core.Bool.{Bool, true, false, _&&_}
 use mathlib.Core.Logic.{_⊎_, inl, inr}
 use Prim.Native.Nat.{ℕ, zero, suc, _+_, _-_, _<_, _≤_}
-use native.Mathlib.Nat.{sub-zero, add-zero, zero-add, add-suc, suc-add, le-of-suc-le-suc, not-suc-le-zero}
+use native.Mathlib.Nat.{sub-zero, add-zero, add-suc, suc-add, le-of-suc-le-suc, not-suc-le-zero}
 use native.Mathlib.Numerals.{add-one}
 use native.Mathlib.Omega.{arith}
 use Rattle.table.specs.Outcome.{Outcome, accepted, refused, demand, _⨾_, each}
@@ -24,6 +24,10 @@ then-left (refused n p) after e = e
 pub then-right : (o after : Outcome) → (o ⨾ after) ≡ accepted → after ≡ accepted
 then-right accepted after e = e
 then-right (refused n p) after e = refused-not e
+
+pub then-then : (a b c : Outcome) → ((a ⨾ b) ⨾ c) ≡ (a ⨾ b ⨾ c)
+then-then accepted b c = refl
+then-then (refused n p) b c = refl
 
 pub demand-true : (test : Bool) (n p : ℕ) → demand test n p ≡ accepted → test ≡ true
 demand-true true n p e = refl

@@ -1,6 +1,6 @@
 -- The check of an action whose kind is known: the fields of that kind's form.
 -- Assumes nothing.
-use mathlib.Core.Path.{_≡_, refl, _∙_, ap, sym}
+use mathlib.Core.Path.{_≡_, _∙_, ap, sym}
 use mathlib.Core.Bool.{Bool, true, false}
 use mathlib.Core.Logic.{_⊎_, inl, inr}
 use mathlib.Core.List.{List}
@@ -8,9 +8,9 @@ use Prim.Native.Nat.{ℕ, _+_, _<_, _≤_}
 use native.Mathlib.Omega.{arith}
 use borrow.Author.Tests.{le-leb, lt-leb, eqb-true, eqb-false}
 use lib.Dec.{eqb, leb}
-use Rattle.table.specs.Outcome.{Outcome, demand, _⨾_, refused}
-use Rattle.table.specs.Format.{kindAt, placeOf}
-use Rattle.table.specs.Kinds.{Form, formOf, lastKind}
+use Rattle.table.specs.Outcome.{demand, _⨾_, refused}
+use Rattle.table.specs.Format.{placeOf, kindAt}
+use Rattle.table.specs.Kinds.{formOf, lastKind}
 use Rattle.table.specs.Read.{checkOf, fieldsOf}
 use Rattle.table.proofs.Checks.{which}
 

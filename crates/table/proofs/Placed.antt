@@ -1,15 +1,14 @@
 -- The directory of an accepted file: what one entry's check says, and that every actor's actions lie within the file.
 -- Assumes nothing.
-use mathlib.Core.Path.{_≡_, refl, _∙_, ap, sym, subst}
-use mathlib.Core.Bool.{true}
+use mathlib.Core.Path.{_≡_, _∙_, ap, sym, subst}
 use mathlib.Core.List.{List}
-use Prim.Native.Nat.{ℕ, zero, suc, _+_, _*_, _-_, _<_, _≤_}
+use Prim.Native.Nat.{ℕ, zero, suc, _+_, _-_, _<_, _≤_}
 use native.Mathlib.Nat.{add-zero, zero-add, add-suc, le-refl}
 use native.Mathlib.Omega.{arith}
 use borrow.Author.Tests.{eq-eqb, ne-eqb, le-leb, lt-leb, eqb-true, leb-true}
 use lib.Dec.{eqb, leb}
 use lib.ListN.{length}
-use Rattle.table.specs.Outcome.{Outcome, accepted, refused, demand, _⨾_, each}
+use Rattle.table.specs.Outcome.{accepted, refused, demand, each}
 use Rattle.table.specs.Format.{actorsOf, offsetOf, countOf, dueOf}
 use Rattle.table.specs.Read.{entryOf}
 use Rattle.table.specs.Parts.{Inside}

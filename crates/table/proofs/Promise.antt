@@ -1,18 +1,18 @@
 -- A file that the reader accepts keeps the promise made to the layer above: everything that it names is in range.
 -- Assumes nothing.
-use mathlib.Core.Path.{_≡_, refl, _∙_, ap, sym, subst}
-use mathlib.Core.Bool.{Bool, true, false, _&&_, _||_}
+use mathlib.Core.Path.{_≡_, refl, sym, subst}
+use mathlib.Core.Bool.{true, false, _&&_}
 use mathlib.Core.Logic.{_⊎_, inl, inr}
-use mathlib.Core.List.{List, [], _∷_}
+use mathlib.Core.List.{List}
 use Prim.Native.Nat.{ℕ, zero, suc, _+_, _*_, _<_, _≤_}
 use native.Mathlib.Nat.{zero-add}
 use native.Mathlib.Omega.{arith}
 use borrow.Author.Tests.{ltb-true, leb-true, eqb-true}
 use lib.Dec.{eqb, leb, ltb}
-use lib.ListN.{length, getD}
+use lib.ListN.{length}
 use Rattle.table.specs.Outcome.{Outcome, accepted, demand, _⨾_, each}
 use Rattle.table.specs.Format.{editionOf, actorsOf, mailboxesOf, mutexesOf, offsetOf, countOf, dueOf, placeOf, kindAt, pAt, qAt, zAt, listedAt}
-use Rattle.table.specs.Kinds.{Form, Field, Rest, formOf, lastKind, actions, mutexes, mutex}
+use Rattle.table.specs.Kinds.{Form, formOf, lastKind, actions, mutexes, mutex}
 use Rattle.table.specs.Decode.{numbersAt, decodeAs, actionOf}
 use Rattle.table.specs.Read.{headerOf, directoryOf, endOf, actionsOf, actorOf, checkOf, entryOf, readOf, fieldsOf, fits, listFits, listAllowed, clear, restClear, allowed, posts}
 use Rattle.table.specs.Promise.{number, Listing, isPost, LowerPost, InRange, Accepted}
@@ -45,10 +45,13 @@ module _ (b : List ℕ) (actor k : ℕ) where
   at = placeOf first k
 
   module _ (f : Form) (right : fieldsOf b first k f ≡ accepted) where
-    after-p : (demand (fits b (f .q) (qAt b at)) 7 at ⨾ listFits b at (f .rest) ⨾ listAllowed b first k (f .rest) ⨾ demand (clear (f .p) (pAt b at)) 9 at ⨾ demand (clear (f .q) (qAt b at)) 9 at ⨾ restClear b at (f .rest)) ≡ accepted
+    abbrev all-clear : Outcome
+    all-clear = demand (clear (f .p) (pAt b at)) 9 at ⨾ demand (clear (f .q) (qAt b at)) 9 at ⨾ restClear b at (f .rest)
+
+    after-p : (demand (fits b (f .q) (qAt b at)) 7 at ⨾ listFits b at (f .rest) ⨾ listAllowed b first k (f .rest) ⨾ all-clear) ≡ accepted
     after-p = then-right (demand (fits b (f .p) (pAt b at)) 7 at) _ right
 
-    after-q : (listFits b at (f .rest) ⨾ listAllowed b first k (f .rest) ⨾ demand (clear (f .p) (pAt b at)) 9 at ⨾ demand (clear (f .q) (qAt b at)) 9 at ⨾ restClear b at (f .rest)) ≡ accepted
+    after-q : (listFits b at (f .rest) ⨾ listAllowed b first k (f .rest) ⨾ all-clear) ≡ accepted
     after-q = then-right (demand (fits b (f .q) (qAt b at)) 7 at) _ after-p
 
     p-fits : fits b (f .p) (pAt b at) ≡ true
@@ -64,7 +67,8 @@ module _ (b : List ℕ) (actor k : ℕ) where
     list-allowed = then-left (listAllowed b first k (f .rest)) _ (then-right (listFits b at (f .rest)) _ after-q)
 
   -- a list whose z is from 1 to 4 and whose bytes pass a check, as a listing
-  listing : (P : ℕ → Type 0) → (leb 1 (zAt b at) && leb (zAt b at) 4) ≡ true → ((i : ℕ) → i < zAt b at → P (listedAt b at i)) → Listing P (numbersAt b at)
+  listing : (P : ℕ → Type 0) → (leb 1 (zAt b at) && leb (zAt b at) 4) ≡ true → ((i : ℕ) → i < zAt b at → P (listedAt b at i))
+      → Listing P (numbersAt b at)
   listing P z each-right =
       let most : zAt b at ≤ 4 = leb-true _ _ (and-right (leb 1 (zAt b at)) (leb (zAt b at) 4) z) in
       record {
@@ -79,20 +83,23 @@ module _ (b : List ℕ) (actor k : ℕ) where
       lower : (i : ℕ) → i < zAt b at → LowerPost b actor k (listedAt b at i)
       lower i h =
           let x : ℕ = listedAt b at i in
-          let ok : allowed b first k x ≡ true = demand-true _ 8 at (rw zero-add at (each-at (λ j. demand (allowed b first k (listedAt b at j)) 8 at) (zAt b at) 0 listed i h)) in (
+          let ok : allowed b first k x ≡ true =
+          demand-true _ 8 at (rw zero-add at (each-at (λ j. demand (allowed b first k (listedAt b at j)) 8 at) (zAt b at) 0 listed i h)) in (
             ltb-true _ _ (and-left (ltb x k) (posts (kindAt b (placeOf first x))) ok),
             post-decoded b (placeOf first x) (kindAt b (placeOf first x)) (and-right (ltb x k) (posts (kindAt b (placeOf first x))) ok),
           )
 
   all-mutexes : listFits b at mutexes ≡ accepted → Listing (λ m. m < mutexesOf b) (numbersAt b at)
-  all-mutexes z = listing (λ m. m < mutexesOf b) (demand-true _ 7 at (then-left (demand (leb 1 (zAt b at) && leb (zAt b at) 4) 7 at) _ z)) below
+  all-mutexes z =
+      listing (λ m. m < mutexesOf b) (demand-true _ 7 at (then-left (demand (leb 1 (zAt b at) && leb (zAt b at) 4) 7 at) _ z)) below
     where
       below : (i : ℕ) → i < zAt b at → listedAt b at i < mutexesOf b
       below i h =
           ltb-true _ _
           (demand-true _ 7 at
           (rw zero-add at
-          (each-at (λ j. demand (fits b mutex (listedAt b at j)) 7 at) (zAt b at) 0 (then-right (demand (leb 1 (zAt b at) && leb (zAt b at) 4) 7 at) _ z) i h)))
+          (each-at (λ j. demand (fits b mutex (listedAt b at j)) 7 at) (zAt b at) 0
+          (then-right (demand (leb 1 (zAt b at) && leb (zAt b at) 4) 7 at) _ z) i h)))
 
   -- by kind: what its fields' check says is what the decoded action asks
   kind-range : (kind : ℕ) → kind ≤ lastKind → fieldsOf b first k (formOf kind) ≡ accepted → InRange b actor k (decodeAs kind b at)
@@ -102,12 +109,16 @@ module _ (b : List ℕ) (actor k : ℕ) where
   kind-range (suc (suc zero)) h r = (ltb-true _ _ (p-fits (formOf 2) r), ltb-true _ _ (q-fits (formOf 2) r))
   kind-range (suc (suc (suc zero))) h r = (ltb-true _ _ (p-fits (formOf 3) r), ltb-true _ _ (q-fits (formOf 3) r))
   kind-range (suc (suc (suc (suc zero)))) h r = (ltb-true _ _ (p-fits (formOf 4) r), ltb-true _ _ (q-fits (formOf 4) r))
-  kind-range (suc (suc (suc (suc (suc zero))))) h r = (ltb-true _ _ (p-fits (formOf 5) r), lower-posts (list-fits (formOf 5) r) (list-allowed (formOf 5) r))
-  kind-range (suc (suc (suc (suc (suc (suc zero)))))) h r = (ltb-true _ _ (p-fits (formOf 6) r), lower-posts (list-fits (formOf 6) r) (list-allowed (formOf 6) r))
+  kind-range (suc (suc (suc (suc (suc zero))))) h r =
+      (ltb-true _ _ (p-fits (formOf 5) r), lower-posts (list-fits (formOf 5) r) (list-allowed (formOf 5) r))
+  kind-range (suc (suc (suc (suc (suc (suc zero)))))) h r =
+      (ltb-true _ _ (p-fits (formOf 6) r), lower-posts (list-fits (formOf 6) r) (list-allowed (formOf 6) r))
   kind-range (suc (suc (suc (suc (suc (suc (suc zero))))))) h r = ltb-true _ _ (p-fits (formOf 7) r)
   kind-range (suc (suc (suc (suc (suc (suc (suc (suc zero)))))))) h r = ltb-true _ _ (p-fits (formOf 8) r)
-  kind-range (suc (suc (suc (suc (suc (suc (suc (suc (suc zero))))))))) h r = (ltb-true _ _ (p-fits (formOf 9) r), all-mutexes (list-fits (formOf 9) r))
-  kind-range (suc (suc (suc (suc (suc (suc (suc (suc (suc (suc zero)))))))))) h r = (ltb-true _ _ (p-fits (formOf 10) r), all-mutexes (list-fits (formOf 10) r))
+  kind-range (suc (suc (suc (suc (suc (suc (suc (suc (suc zero))))))))) h r =
+      (ltb-true _ _ (p-fits (formOf 9) r), all-mutexes (list-fits (formOf 9) r))
+  kind-range (suc (suc (suc (suc (suc (suc (suc (suc (suc (suc zero)))))))))) h r =
+      (ltb-true _ _ (p-fits (formOf 10) r), all-mutexes (list-fits (formOf 10) r))
   kind-range (suc (suc (suc (suc (suc (suc (suc (suc (suc (suc (suc kind))))))))))) h r = absurd (omega arith)
 
   checked : checkOf b first k ≡ accepted → InRange b actor k (actionOf b actor k)
@@ -125,13 +136,16 @@ promised b right =
     let header : headerOf b ≡ accepted = then-left (headerOf b) _ right in
     let after-header : (directoryOf b ⨾ endOf b ⨾ actionsOf b) ≡ accepted = then-right (headerOf b) _ right in
     let after-directory : (endOf b ⨾ actionsOf b) ≡ accepted = then-right (directoryOf b) _ after-header in
-    let entries : each (entryOf b) (actorsOf b) 0 ≡ accepted = then-right (demand (leb (4 + 4 * actorsOf b) (length b)) 4 0) _ (then-left (directoryOf b) _ after-header) in
+    let entries : each (entryOf b) (actorsOf b) 0 ≡ accepted =
+    then-right (demand (leb (4 + 4 * actorsOf b) (length b)) 4 0) _ (then-left (directoryOf b) _ after-header) in
     let end : length b ≡ dueOf b (actorsOf b) = eqb-true _ _ (demand-true _ 5 0 (then-left (endOf b) _ after-directory)) in
     let all-actors : each (actorOf b) (actorsOf b) 0 ≡ accepted = then-right (endOf b) _ after-directory in
     let after-length : (demand (eqb (editionOf b) 1) 2 0 ⨾ counts b) ≡ accepted = then-right (demand (leb 4 (length b)) 1 0) _ header in
     let in-counts : counts b ≡ accepted = then-right (demand (eqb (editionOf b) 1) 2 0) _ after-length in
-    let actors : (leb 1 (actorsOf b) && leb (actorsOf b) 8) ≡ true = demand-true _ 3 0 (then-left (demand (leb 1 (actorsOf b) && leb (actorsOf b) 8) 3 0) _ in-counts) in
-    let others : (demand (leb (mailboxesOf b) 8) 3 0 ⨾ demand (leb (mutexesOf b) 8) 3 0) ≡ accepted = then-right (demand (leb 1 (actorsOf b) && leb (actorsOf b) 8) 3 0) _ in-counts in
+    let actors : (leb 1 (actorsOf b) && leb (actorsOf b) 8) ≡ true =
+    demand-true _ 3 0 (then-left (demand (leb 1 (actorsOf b) && leb (actorsOf b) 8) 3 0) _ in-counts) in
+    let others : (demand (leb (mailboxesOf b) 8) 3 0 ⨾ demand (leb (mutexesOf b) 8) 3 0) ≡ accepted =
+    then-right (demand (leb 1 (actorsOf b) && leb (actorsOf b) 8) 3 0) _ in-counts in
     record {
       actors-least = leb-true _ _ (and-left (leb 1 (actorsOf b)) (leb (actorsOf b) 8) actors);
       actors-most = leb-true _ _ (and-right (leb 1 (actorsOf b)) (leb (actorsOf b) 8) actors);

@@ -8,7 +8,7 @@ use denote.Enum.Declared.{tagOf, declared}
 use types.Run.{OneOf, miss}
 use Rattle.table.specs.declared.Reading.{Reading}
 use Rattle.table.specs.declared.Reading.the-variants.{Accepted, Short, Edition, Counts, Directory, Length, Kind, Range, Listed, Unused}
-use Rattle.table.specs.Outcome.{Outcome, accepted, _⨾_, each}
+use Rattle.table.specs.Outcome.{Outcome, accepted, refused, _⨾_, each, numberOf, positionOf}
 use Rattle.table.specs.Answer.{outcome}
 use Rattle.table.proofs.Reading.{enum}
 use Rattle.table.proofs.Checks.{each-next}
@@ -32,19 +32,24 @@ accepts (Range at) e = absurd (omega arith)
 accepts (Listed at) e = absurd (omega arith)
 accepts (Unused at) e = absurd (omega arith)
 
-pub refuses : (r : Reading) → OneOf refusals (variant r) → (after : Outcome) → (outcome r ⨾ after) ≡ outcome r
-refuses Accepted h after = absurd (miss refusals 0 tt h)
-refuses Short h after = refl
-refuses Edition h after = refl
-refuses Counts h after = refl
-refuses Directory h after = refl
-refuses Length h after = refl
-refuses (Kind at) h after = refl
-refuses (Range at) h after = refl
-refuses (Listed at) h after = refl
-refuses (Unused at) h after = refl
+-- a reading that refuses has a number and a position
+pub refusing : (r : Reading) → OneOf refusals (variant r) → outcome r ≡ refused (numberOf (outcome r)) (positionOf (outcome r))
+refusing Accepted h = absurd (miss refusals 0 tt h)
+refusing Short h = refl
+refusing Edition h = refl
+refusing Counts h = refl
+refusing Directory h = refl
+refusing Length h = refl
+refusing (Kind at) h = refl
+refusing (Range at) h = refl
+refusing (Listed at) h = refl
+refusing (Unused at) h = refl
+
+refuses : (r : Reading) → OneOf refusals (variant r) → (after : Outcome) → (outcome r ⨾ after) ≡ outcome r
+refuses r h after = ap (λ (o : Outcome). o ⨾ after) (refusing r h) ∙ sym (refusing r h)
 
 -- a loop at i of n whose check is what a reading says: a reading that refuses is the outcome
-pub each-reads : (f : ℕ → Outcome) (n i : ℕ) → i < n → (r : Reading) → outcome r ≡ f i → OneOf refusals (variant r) → each f (n - i) i ≡ outcome r
+pub each-reads : (f : ℕ → Outcome) (n i : ℕ) → i < n → (r : Reading) → outcome r ≡ f i → OneOf refusals (variant r)
+    → each f (n - i) i ≡ outcome r
 each-reads f n i h r e refusal =
     each-next f n i h ∙ ap (λ (o : Outcome). o ⨾ each f (n - (i + 1)) (i + 1)) (sym e) ∙ refuses r refusal (each f (n - (i + 1)) (i + 1))

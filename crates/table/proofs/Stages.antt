@@ -1,11 +1,11 @@
 -- Reading by stages: what a refused header, a directory cut short and a right header make of `readOf`; and what each answer of `read` has to show.
 -- Assumes nothing.
-use mathlib.Core.Path.{_≡_, refl, _∙_, ap, sym}
-use mathlib.Core.Bool.{Bool, true, false}
+use mathlib.Core.Path.{_≡_, _∙_, ap, sym}
+use mathlib.Core.Bool.{Bool}
 use mathlib.Core.List.{List}
 use Prim.Native.Nat.{ℕ, _+_, _*_, _<_, _≤_}
+use native.Mathlib.Omega.{arith}
 use borrow.Author.Tests.{eq-eqb, ne-eqb, le-leb, lt-leb}
-use lib.Dec.{leb}
 use lib.ListN.{length}
 use Rattle.table.specs.declared.Reading.{Reading}
 use Rattle.table.specs.declared.Reading.the-variants as reading
@@ -25,16 +25,67 @@ module _ (b : List ℕ) where
   unfolding readOf
   header-refuses number e = sym (ap (λ (o : Outcome). o ⨾ directoryOf b ⨾ endOf b ⨾ actionsOf b) e)
 
-  pub header-right : 4 ≤ length b → editionOf b ≡ 1 → 1 ≤ actorsOf b → actorsOf b ≤ 8 → mailboxesOf b ≤ 8 → mutexesOf b ≤ 8 → headerOf b ≡ accepted
-  header-right long edition least most mailboxes mutexes =
-      rw (
-        le-leb 4 (length b) long,
-        eq-eqb (editionOf b) 1 edition,
-        le-leb 1 (actorsOf b) least,
-        le-leb (actorsOf b) 8 most,
-        le-leb (mailboxesOf b) 8 mailboxes,
-        le-leb (mutexesOf b) 8 mutexes,
-      )
+  pub too-short : length b < 4 → refused 1 0 ≡ readOf b
+  too-short h = header-refuses 1 (rw (lt-leb 4 (length b) h))
+
+  module _ (long : 4 ≤ length b) where
+    pub other-edition : (editionOf b ≡ 1 → ⊥) → refused 2 0 ≡ readOf b
+    other-edition h = header-refuses 2 (rw (le-leb 4 (length b) long, ne-eqb (editionOf b) 1 h))
+
+    -- the counts, as the code reads them
+    module _ (edition : editionOf b ≡ 1) (actors mailboxes mutexes : ℕ)
+        (a : actors ≡ actorsOf b) (m : mailboxes ≡ mailboxesOf b) (x : mutexes ≡ mutexesOf b) where
+      pub no-actors : actors < 1 → refused 3 0 ≡ readOf b
+      no-actors h =
+          header-refuses 3
+          (rw (le-leb 4 (length b) long, eq-eqb (editionOf b) 1 edition, lt-leb 1 (actorsOf b) (omega arith)))
+
+      module _ (least : 1 ≤ actors) where
+        pub many-actors : 8 < actors → refused 3 0 ≡ readOf b
+        many-actors h =
+            header-refuses 3
+            (rw (
+              le-leb 4 (length b) long,
+              eq-eqb (editionOf b) 1 edition,
+              le-leb 1 (actorsOf b) (omega arith),
+              lt-leb (actorsOf b) 8 (omega arith),
+            ))
+
+        module _ (most : actors ≤ 8) where
+          pub many-mailboxes : 8 < mailboxes → refused 3 0 ≡ readOf b
+          many-mailboxes h =
+              header-refuses 3
+              (rw (
+                le-leb 4 (length b) long,
+                eq-eqb (editionOf b) 1 edition,
+                le-leb 1 (actorsOf b) (omega arith),
+                le-leb (actorsOf b) 8 (omega arith),
+                lt-leb (mailboxesOf b) 8 (omega arith),
+              ))
+
+          module _ (few : mailboxes ≤ 8) where
+            pub many-mutexes : 8 < mutexes → refused 3 0 ≡ readOf b
+            many-mutexes h =
+                header-refuses 3
+                (rw (
+                  le-leb 4 (length b) long,
+                  eq-eqb (editionOf b) 1 edition,
+                  le-leb 1 (actorsOf b) (omega arith),
+                  le-leb (actorsOf b) 8 (omega arith),
+                  le-leb (mailboxesOf b) 8 (omega arith),
+                  lt-leb (mutexesOf b) 8 (omega arith),
+                ))
+
+            pub header-right : mutexes ≤ 8 → headerOf b ≡ accepted
+            header-right h =
+                rw (
+                  le-leb 4 (length b) long,
+                  eq-eqb (editionOf b) 1 edition,
+                  le-leb 1 (actorsOf b) (omega arith),
+                  le-leb (actorsOf b) 8 (omega arith),
+                  le-leb (mailboxesOf b) 8 (omega arith),
+                  le-leb (mutexesOf b) 8 (omega arith),
+                )
 
   module _ (right : headerOf b ≡ accepted) where
     past-header : (directoryOf b ⨾ endOf b ⨾ actionsOf b) ≡ readOf b
@@ -44,8 +95,11 @@ module _ (b : List ℕ) where
     abbrev roomy : Bool → Outcome
     roomy room = (demand room 4 0 ⨾ each (entryOf b) (actorsOf b) 0) ⨾ endOf b ⨾ actionsOf b
 
-    pub cut-short : length b < 4 + 4 * actorsOf b → refused 4 0 ≡ readOf b
-    cut-short h = sym (ap roomy (lt-leb (4 + 4 * actorsOf b) (length b) h)) ∙ past-header
+    pub cut-short : (actors : ℕ) → actors ≡ actorsOf b → length b < 4 + 4 * actors → refused 4 0 ≡ readOf b
+    cut-short actors e h = sym (ap roomy (lt-leb (4 + 4 * actorsOf b) (length b) (omega arith))) ∙ past-header
 
-    pub past-room : 4 + 4 * actorsOf b ≤ length b → (each (entryOf b) (actorsOf b) 0 ⨾ endOf b ⨾ actionsOf b) ≡ readOf b
-    past-room h = sym (ap roomy (le-leb (4 + 4 * actorsOf b) (length b) h)) ∙ past-header
+    pub past-room : (actors : ℕ) → actors ≡ actorsOf b → 4 + 4 * actors ≤ length b
+        → (each (entryOf b) actors 0 ⨾ endOf b ⨾ actionsOf b) ≡ readOf b
+    past-room actors e h =
+        ap (λ (n : ℕ). each (entryOf b) n 0 ⨾ endOf b ⨾ actionsOf b) e
+        ∙ sym (ap roomy (le-leb (4 + 4 * actorsOf b) (length b) (omega arith))) ∙ past-header

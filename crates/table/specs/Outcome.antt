@@ -22,3 +22,12 @@ refused number position ⨾ after = refused number position
 abbrev pub each : (ℕ → Outcome) → ℕ → ℕ → Outcome
 each f zero k = accepted
 each f (suc n) k = f k ⨾ each f n (suc k)
+
+-- a refusal's number and its position; 0 and 0 where accepted
+abbrev pub numberOf : Outcome → ℕ
+numberOf accepted = 0
+numberOf (refused number position) = number
+
+abbrev pub positionOf : Outcome → ℕ
+positionOf accepted = 0
+positionOf (refused number position) = position

@@ -1,11 +1,11 @@
 -- `readOf`: the outcome of reading, for every list of bytes, with the refusals 1 to 9 in the order of "Where a refusal arises".
 -- Assumes nothing.
 use Prim.Native.Nat.{ℕ, _+_, _*_, _-_}
-use mathlib.Core.Bool.{Bool, true, false, _&&_, _||_}
+use mathlib.Core.Bool.{Bool, true, _&&_, _||_}
 use mathlib.Core.List.{List}
 use lib.ListN.{length}
 use lib.Dec.{ltb, leb, eqb}
-use Rattle.table.specs.Outcome.{Outcome, accepted, refused, demand, _⨾_, each}
+use Rattle.table.specs.Outcome.{Outcome, accepted, demand, _⨾_, each}
 use Rattle.table.specs.Format.{editionOf, actorsOf, mailboxesOf, mutexesOf, offsetOf, countOf, dueOf, placeOf, kindAt, pAt, qAt, zAt, listedAt}
 use Rattle.table.specs.Kinds.{Field, unused, cell, mailbox, mutex, Rest, nothing, value, actions, mutexes, Form, formOf, lastKind}
 

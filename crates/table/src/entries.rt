@@ -6,7 +6,7 @@ ghost use Rattle.table.specs.Outcome.{each, _⨾_};
 ghost use Rattle.table.specs.Format.{mailboxesOf, mutexesOf};
 ghost use Rattle.table.specs.Read.{entryOf, endOf, actionsOf, checkOf};
 ghost use Rattle.table.specs.Answer.{outcome};
-ghost use Rattle.table.specs.Parts.{Header, Inside};
+ghost use Rattle.table.specs.Parts.{Header, Inside, tableMost, limitsOf};
 use crate::Reading;
 use crate::bytes;
 use crate::fields;
@@ -38,14 +38,17 @@ pub fn entries(t: &[u8], actors: usize, mailboxes: usize, mutexes: usize) -> Rea
 
 // Every actor's actions.
 fn all(t: &[u8], actors: usize, mailboxes: usize, mutexes: usize) -> Reading
-    requires { ⌜ Header (now t) actors mailboxes mutexes × Inside (now t) ⌝ }
+    requires { ⌜ Header (now t) actors mailboxes mutexes × Inside (now t) × (length (now t) ≤ tableMost) ⌝ }
     ensures { λ r. ⌜ outcome r ≡ actionsOf (now (t .entry)) ⌝ }
 {
+    let m = t[2];
+    let x = t[3];
+    let limits = [8, 8, 8, m, m, 8, 8, x, x, 8, 8];
     let mut a = 0;
     while a < actors {
         let first = bytes::word(t, 4 + 4 * a);
         let count = bytes::word(t, 6 + 4 * a);
-        let r = own(t, first, count, mailboxes, mutexes);
+        let r = own(t, first, count, mailboxes, mutexes, &limits);
         let Reading::Accepted = r else {
             return r;
         };
@@ -55,13 +58,21 @@ fn all(t: &[u8], actors: usize, mailboxes: usize, mutexes: usize) -> Reading
 }
 
 // One actor's actions.
-fn own(t: &[u8], first: usize, count: usize, mailboxes: usize, mutexes: usize) -> Reading
-    requires { ⌜ (first + 8 * count ≤ length (now t)) × (mailboxes ≡ mailboxesOf (now t)) × (mutexes ≡ mutexesOf (now t)) ⌝ }
+fn own(
+    t: &[u8],
+    first: usize,
+    count: usize,
+    mailboxes: usize,
+    mutexes: usize,
+    limits: &[u8; 11],
+) -> Reading
+    requires { ⌜ (first + 8 * count ≤ length (now t)) × (mailboxes ≡ mailboxesOf (now t)) × (mutexes ≡ mutexesOf (now t))
+        × (length (now t) ≤ tableMost) × (now limits ≡ limitsOf (now t)) ⌝ }
     ensures { λ r. ⌜ outcome r ≡ each (checkOf (now (t .entry)) first) count 0 ⌝ }
 {
     let mut k = 0;
     while k < count {
-        let r = fields::check(t, first, k, mailboxes, mutexes);
+        let r = fields::check(t, first, k, mailboxes, mutexes, limits);
         let Reading::Accepted = r else {
             return r;
         };

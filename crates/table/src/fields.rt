@@ -1,19 +1,77 @@
 // One action's eight bytes: its kind, its fields in range, its list allowed, its unused bytes 0.
 ghost use mathlib.Core.Path.{_≡_};
-ghost use Prim.Native.Nat.{_+_, _*_, _≤_};
+ghost use Prim.Native.Nat.{_≤_};
 ghost use lib.ListN.{length};
-ghost use lib.Dec.{ltb};
-ghost use Rattle.table.specs.Outcome.{demand, each};
-ghost use Rattle.table.specs.Format.{mailboxesOf, mutexesOf, listedAt, zAt, placeOf};
-ghost use Rattle.table.specs.Kinds.{form, cell, unused, value, actions};
-ghost use Rattle.table.specs.Read.{checkOf, fieldsOf, blanks, allowed};
+ghost use mathlib.Core.Bool.{true};
+ghost use Rattle.table.specs.Outcome.{demand};
+ghost use Rattle.table.specs.Format.{mailboxesOf, mutexesOf, valueAt, placeOf};
+ghost use Rattle.table.specs.Kinds.{form, cell, unused, value};
+ghost use Rattle.table.specs.Read.{checkOf, fieldsOf, blanks};
 ghost use Rattle.table.specs.Answer.{outcome};
-ghost use Rattle.table.specs.Parts.{Within, pairOf, loneOf, mutexAnyOf};
+ghost use Rattle.table.specs.Parts.{Room, Plain, limitsOf, pairOf, loneOf, allBelow, allPosts, listOf};
 use crate::Reading;
 use crate::bytes;
 
-pub fn check(t: &[u8], first: usize, k: usize, mailboxes: usize, mutexes: usize) -> Reading
-    requires { ⌜ Within (now t) first k × (mailboxes ≡ mailboxesOf (now t)) × (mutexes ≡ mutexesOf (now t)) ⌝ }
+// By kind: what q lies under where the kind has no list, and what b4 to b7 as one number lie under. Nothing lies under 0: a list is looked at
+// by itself.
+const Q_UNDER: [u8; 11] = [1, 8, 8, 8, 8, 0, 0, 1, 1, 0, 0];
+
+const VALUE_UNDER: [usize; 11] = [4294967296, 1, 1, 1, 1, 0, 0, 1, 1, 0, 0];
+
+// By a list's length: what b4 to b7 as one number lie under where the bytes after the list are 0.
+const LIST_UNDER: [usize; 5] = [1, 256, 65536, 16777216, 4294967296];
+
+// An action. Most have no list and nothing wrong, which a few tests without a branch by kind show.
+pub fn check(
+    t: &[u8],
+    first: usize,
+    k: usize,
+    mailboxes: usize,
+    mutexes: usize,
+    limits: &[u8; 11],
+) -> Reading
+    requires { ⌜ Room (now t) (placeOf first k) × (mailboxes ≡ mailboxesOf (now t)) × (mutexes ≡ mutexesOf (now t))
+        × (now limits ≡ limitsOf (now t)) ⌝ }
+    ensures { λ r. ⌜ outcome r ≡ checkOf (now (t .entry)) first k ⌝ }
+{
+    if plain(t, first + 8 * k, limits) {
+        return Reading::Accepted;
+    }
+    exact(t, first, k, mailboxes, mutexes)
+}
+
+// An action without a list that has nothing wrong.
+fn plain(t: &[u8], at: usize, limits: &[u8; 11]) -> bool
+    requires { ⌜ Room (now t) at × (length (now limits) ≡ 11) ⌝ }
+    ensures { λ r. ⌜ (r ≡ true → Plain (now (t .entry)) at (now (limits .entry))) ⌝ }
+{
+    let kind = bytes::wide(t[at]);
+    if 10 < kind {
+        return false;
+    }
+    if limits[kind] <= t[at + 1] {
+        return false;
+    }
+    if Q_UNDER[kind] <= t[at + 2] {
+        return false;
+    }
+    if t[at + 3] != 0 {
+        return false;
+    }
+    value_at(t, at) < VALUE_UNDER[kind]
+}
+
+// b4 to b7 as one number.
+fn value_at(t: &[u8], at: usize) -> usize
+    requires { ⌜ Room (now t) at ⌝ }
+    ensures { λ r. ⌜ r ≡ valueAt (now (t .entry)) at ⌝ }
+{
+    bytes::word(t, at + 4) + 65536 * bytes::word(t, at + 4 + 2)
+}
+
+// An action, by its kind.
+fn exact(t: &[u8], first: usize, k: usize, mailboxes: usize, mutexes: usize) -> Reading
+    requires { ⌜ Room (now t) (placeOf first k) × (mailboxes ≡ mailboxesOf (now t)) × (mutexes ≡ mutexesOf (now t)) ⌝ }
     ensures { λ r. ⌜ outcome r ≡ checkOf (now (t .entry)) first k ⌝ }
 {
     let at = first + 8 * k;
@@ -25,142 +83,135 @@ pub fn check(t: &[u8], first: usize, k: usize, mailboxes: usize, mutexes: usize)
         5 | 6 => any(t, first, k),
         7 | 8 => lone(t, at, mutexes),
         9 | 10 => mutex_any(t, at, mutexes),
-        _ => Reading::Kind(at),
+        _ => Reading::Kind(at as u32),
     }
 }
 
 // Set: a cell and a value.
 fn set(t: &[u8], first: usize, k: usize) -> Reading
-    requires { ⌜ Within (now t) first k ⌝ }
+    requires { ⌜ Room (now t) (placeOf first k) ⌝ }
     ensures { λ r. ⌜ outcome r ≡ fieldsOf (now (t .entry)) first k (form cell unused value) ⌝ }
 {
     let at = first + 8 * k;
     if 8 <= t[at + 1] {
-        return Reading::Range(at);
+        return Reading::Range(at as u32);
     }
     if t[at + 2] != 0 {
-        return Reading::Unused(at);
+        return Reading::Unused(at as u32);
     }
     if t[at + 3] != 0 {
-        return Reading::Unused(at);
+        return Reading::Unused(at as u32);
     }
     Reading::Accepted
 }
 
 // Add, Lesser, Send, Receive: p below a limit, and a cell.
 fn pair(t: &[u8], at: usize, limit: usize) -> Reading
-    requires { ⌜ at + 8 ≤ length (now t) ⌝ }
+    requires { ⌜ Room (now t) at ⌝ }
     ensures { λ r. ⌜ outcome r ≡ pairOf (now (t .entry)) at limit ⌝ }
 {
     if limit <= bytes::wide(t[at + 1]) {
-        return Reading::Range(at);
+        return Reading::Range(at as u32);
     }
     if 8 <= t[at + 2] {
-        return Reading::Range(at);
+        return Reading::Range(at as u32);
     }
     if t[at + 3] != 0 {
-        return Reading::Unused(at);
+        return Reading::Unused(at as u32);
     }
     if blank(t, at, 0) {
         return Reading::Accepted;
     }
-    Reading::Unused(at)
+    Reading::Unused(at as u32)
 }
 
 // Lock, Unlock: p below a limit.
 fn lone(t: &[u8], at: usize, limit: usize) -> Reading
-    requires { ⌜ at + 8 ≤ length (now t) ⌝ }
+    requires { ⌜ Room (now t) at ⌝ }
     ensures { λ r. ⌜ outcome r ≡ loneOf (now (t .entry)) at limit ⌝ }
 {
     if limit <= bytes::wide(t[at + 1]) {
-        return Reading::Range(at);
+        return Reading::Range(at as u32);
     }
     if t[at + 2] != 0 {
-        return Reading::Unused(at);
+        return Reading::Unused(at as u32);
     }
     if t[at + 3] != 0 {
-        return Reading::Unused(at);
+        return Reading::Unused(at as u32);
     }
     if blank(t, at, 0) {
         return Reading::Accepted;
     }
-    Reading::Unused(at)
+    Reading::Unused(at as u32)
 }
 
 // TestAny, WaitAny: a result cell and a list of own actions.
 fn any(t: &[u8], first: usize, k: usize) -> Reading
-    requires { ⌜ Within (now t) first k ⌝ }
-    ensures { λ r. ⌜ outcome r ≡ fieldsOf (now (t .entry)) first k (form cell unused actions) ⌝ }
+    requires { ⌜ Room (now t) (placeOf first k) ⌝ }
+    ensures { λ r. ⌜ outcome r ≡ listOf (now (t .entry)) (placeOf first k) (allPosts (now (t .entry)) first k) ⌝ }
 {
     let at = first + 8 * k;
     if 8 <= t[at + 1] {
-        return Reading::Range(at);
+        return Reading::Range(at as u32);
     }
     let z = bytes::wide(t[at + 3]);
     if z < 1 {
-        return Reading::Range(at);
+        return Reading::Range(at as u32);
     }
     if 4 < z {
-        return Reading::Range(at);
+        return Reading::Range(at as u32);
     }
     if all_posts(t, first, k, z) {
         if t[at + 2] != 0 {
-            return Reading::Unused(at);
+            return Reading::Unused(at as u32);
         }
         if blank(t, at, z) {
             return Reading::Accepted;
         }
-        return Reading::Unused(at);
+        return Reading::Unused(at as u32);
     }
-    Reading::Listed(at)
+    Reading::Listed(at as u32)
 }
 
 // MutexTest, MutexWait: a result cell and a list of mutexes.
 fn mutex_any(t: &[u8], at: usize, limit: usize) -> Reading
-    requires { ⌜ at + 8 ≤ length (now t) ⌝ }
-    ensures { λ r. ⌜ outcome r ≡ mutexAnyOf (now (t .entry)) at limit ⌝ }
+    requires { ⌜ Room (now t) at ⌝ }
+    ensures { λ r. ⌜ outcome r ≡ listOf (now (t .entry)) at (allBelow (now (t .entry)) at limit) ⌝ }
 {
     if 8 <= t[at + 1] {
-        return Reading::Range(at);
+        return Reading::Range(at as u32);
     }
     let z = bytes::wide(t[at + 3]);
     if z < 1 {
-        return Reading::Range(at);
+        return Reading::Range(at as u32);
     }
     if 4 < z {
-        return Reading::Range(at);
+        return Reading::Range(at as u32);
     }
     if all_below(t, at, z, limit) {
         if t[at + 2] != 0 {
-            return Reading::Unused(at);
+            return Reading::Unused(at as u32);
         }
         if blank(t, at, z) {
             return Reading::Accepted;
         }
-        return Reading::Unused(at);
+        return Reading::Unused(at as u32);
     }
-    Reading::Range(at)
+    Reading::Range(at as u32)
 }
 
 // The list bytes from a place on are 0.
 fn blank(t: &[u8], at: usize, from: usize) -> bool
-    requires { ⌜ (at + 8 ≤ length (now t)) × (from ≤ 4) ⌝ }
+    requires { ⌜ Room (now t) at × (from ≤ 4) ⌝ }
     ensures { λ r. ⌜ demand r 9 at ≡ blanks (now (t .entry)) at from ⌝ }
 {
-    let mut i = from;
-    while i < 4 {
-        if t[at + 4 + i] != 0 {
-            return false;
-        }
-        i += 1;
-    }
-    true
+    value_at(t, at) < LIST_UNDER[from]
 }
 
 // The first z numbers of a list are below a limit.
 fn all_below(t: &[u8], at: usize, z: usize, limit: usize) -> bool
-    requires { ⌜ (at + 8 ≤ length (now t)) × (z ≤ 4) ⌝ }
-    ensures { λ r. ⌜ demand r 7 at ≡ each (λ i. demand (ltb (listedAt (now (t .entry)) at i) limit) 7 at) z 0 ⌝ }
+    requires { ⌜ Room (now t) at × (z ≤ 4) ⌝ }
+    ensures { λ r. ⌜ demand r 7 at ≡ allBelow (now (t .entry)) at limit z ⌝ }
 {
     let mut i = 0;
     while i < z {
@@ -174,8 +225,8 @@ fn all_below(t: &[u8], at: usize, z: usize, limit: usize) -> bool
 
 // The first z numbers of a list are lower Sends or Receives.
 fn all_posts(t: &[u8], first: usize, k: usize, z: usize) -> bool
-    requires { ⌜ Within (now t) first k × (z ≤ 4) ⌝ }
-    ensures { λ r. ⌜ demand r 8 (placeOf first k) ≡ each (λ i. demand (allowed (now (t .entry)) first k (listedAt (now (t .entry)) (placeOf first k) i)) 8 (placeOf first k)) z 0 ⌝ }
+    requires { ⌜ Room (now t) (placeOf first k) × (z ≤ 4) ⌝ }
+    ensures { λ r. ⌜ demand r 8 (placeOf first k) ≡ allPosts (now (t .entry)) first k z ⌝ }
 {
     let at = first + 8 * k;
     let mut i = 0;

@@ -1,11 +1,11 @@
 // The table reader: which files are task tables, and what stands in one. The bytes stay where they are.
 ghost use mathlib.Core.Path.{_≡_};
+ghost use Rattle.table.specs.Outcome.{numberOf, positionOf};
 ghost use Rattle.table.specs.Answer.{outcome};
 ghost use Rattle.table.specs.Read.{readOf};
 ghost use Rattle.table.specs.Promise.{Accepted};
-ghost use Rattle.table.specs.Parts.{Header};
-ghost use lib.ListN.{length};
 
+pub mod access;
 mod bytes;
 mod entries;
 mod fields;
@@ -42,10 +42,48 @@ pub enum Reading {
     Counts,
     Directory,
     Length,
-    Kind(usize),
-    Range(usize),
-    Listed(usize),
-    Unused(usize),
+    Kind(u32),
+    Range(u32),
+    Listed(u32),
+    Unused(u32),
+}
+
+impl Reading {
+    // Document 01's number of the refusal, 0 where the table is accepted.
+    pub fn number(self) -> u32
+        ensures { λ r. ⌜ r ≡ numberOf (outcome self) ⌝ }
+    {
+        match self {
+            Reading::Accepted => 0,
+            Reading::Short => 1,
+            Reading::Edition => 2,
+            Reading::Counts => 3,
+            Reading::Directory => 4,
+            Reading::Length => 5,
+            Reading::Kind(_) => 6,
+            Reading::Range(_) => 7,
+            Reading::Listed(_) => 8,
+            Reading::Unused(_) => 9,
+        }
+    }
+
+    // The refusal's position, 0 where the table is accepted.
+    pub fn position(self) -> u32
+        ensures { λ r. ⌜ r ≡ positionOf (outcome self) ⌝ }
+    {
+        match self {
+            Reading::Accepted => 0,
+            Reading::Short => 0,
+            Reading::Edition => 0,
+            Reading::Counts => 0,
+            Reading::Directory => 0,
+            Reading::Length => 0,
+            Reading::Kind(at) => at,
+            Reading::Range(at) => at,
+            Reading::Listed(at) => at,
+            Reading::Unused(at) => at,
+        }
+    }
 }
 
 // Reads a file of any length: whether it is a task table.

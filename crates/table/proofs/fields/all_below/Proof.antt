@@ -1,21 +1,17 @@
 -- `table::fields::all_below` meets its contract. The loop's invariant: the checks from i on are as good as all of them.
 -- Assumes nothing.
-use Prim.Native.Nat.{ℕ, _+_, _-_, _*_, _<_, _≤_}
-use mathlib.Core.Path.{_≡_, refl, _∙_, ap, sym}
+use Prim.Native.Nat.{ℕ, _-_, _≤_}
+use mathlib.Core.Path.{_≡_, _∙_, sym}
 use mathlib.Core.List.{List}
 use native.Mathlib.Omega.{arith}
 use borrow.Author.Needs.{needs}
-use borrow.Author.Tests.{le-ltb, lt-ltb, eq-eqb, ne-eqb}
-use lib.ListN.{length}
-use lib.Dec.{ltb, eqb}
+use borrow.Author.Tests.{le-ltb, lt-ltb}
+use lib.Dec.{ltb}
 use Rattle.table.specs.Outcome.{Outcome, demand, each}
 use Rattle.table.proofs.Checks.{each-begin, each-go, each-stop, each-end}
 use Rattle.table.specs.Format.{listedAt}
 use Rattle.table.proofs.fields.all_below.Statement.{statement}
 use Rattle.table.proofs.fields.all_below.Tie as tie
-use Rattle.table.proofs.fields.all_below.Reads as reads
-use Rattle.table.proofs.fields.all_below.Lts as lts
-use Rattle.table.proofs.bytes.wide.Reads as wide-reads
 
 abbrev below : List ℕ → ℕ → ℕ → ℕ → Outcome
 below t at limit i = demand (ltb (listedAt t at i) limit) 7 at
@@ -26,55 +22,53 @@ Inv-loop t at z limit i₀ i = (i ≤ z) × (each (below t at limit) z 0 ≡ eac
 abbrev μ-loop : tie.MeasureT-loop
 μ-loop t at z limit i₀ i = z - i
 
--- src/fields.rt:167:5
 loop-holds : tie.Need-loop-holds Inv-loop μ-loop
-loop-holds c = (search needs, each-begin (below (c .before .args .t .now) (c .before .args .at) (c .before .args .limit)) (c .before .args .z))
+loop-holds c =
+    let a = c .before .args in
+    (search needs, each-begin (below (a .t .now) (a .at) (a .limit)) (a .z))
 
--- src/fields.rt:168:35
 add-wide : tie.Need-add-wide Inv-loop μ-loop
 add-wide c = search needs
 
--- src/fields.rt:168:35
 add-wide-2 : tie.Need-add-wide-2 Inv-loop μ-loop
 add-wide-2 c = search needs
 
--- src/fields.rt:168:33
 shared-slice-read-wide : tie.Need-shared-slice-read-wide Inv-loop μ-loop
 shared-slice-read-wide c = search needs
 
--- src/fields.rt:168:21
 wide-requires : tie.Need-wide-requires Inv-loop μ-loop
 wide-requires c κs = search needs
 
--- src/fields.rt:169:13
 returns : tie.Need-returns Inv-loop μ-loop
 returns c =
+    let a = c .before .before .before .before .before .before .args in
+    let l = c .before .before .before .before .loop in
     sym
-    (c .before .before .before .before .loop .inv .1
-    ∙ each-stop (below (c .before .before .before .before .before .before .args .t .now) (c .before .before .before .before .before .before .args .at) (c .before .before .before .before .before .before .args .limit)) (c .before .before .before .before .before .before .args .z) (c .before .before .before .before .loop .i) 7 (c .before .before .before .before .before .before .args .at) (c .before .before .before .loop-test .taken)
+    (l .inv .1
+    ∙ each-stop (below (a .t .now) (a .at) (a .limit)) (a .z) (l .i) 7 (a .at) (c .before .before .before .loop-test .taken)
     (simp (← c .before .wide .ensures .0, le-ltb _ _ (c .if1 .taken))))
 
--- src/fields.rt:171:9
 add-i : tie.Need-add-i Inv-loop μ-loop
 add-i c = search needs
 
--- src/fields.rt:167:5
 loop-less : tie.Need-loop-less Inv-loop μ-loop
 loop-less c = search needs
 
--- src/fields.rt:167:5
 loop-again : tie.Need-loop-again Inv-loop μ-loop
-loop-again c = (
-  omega arith,
-  c .before .before .before .before .loop .inv .1
-      ∙ each-go (below (c .before .before .before .before .before .before .args .t .now) (c .before .before .before .before .before .before .args .at) (c .before .before .before .before .before .before .args .limit)) (c .before .before .before .before .before .before .args .z) (c .before .before .before .before .loop .i) (c .before .before .before .loop-test .taken)
-      (simp (← c .before .wide .ensures .0, lt-ltb _ _ (c .if1 .left))),
-)
+loop-again c =
+    let a = c .before .before .before .before .before .before .args in
+    let l = c .before .before .before .before .loop in (
+      omega arith,
+      l .inv .1
+          ∙ each-go (below (a .t .now) (a .at) (a .limit)) (a .z) (l .i) (c .before .before .before .loop-test .taken)
+          (simp (← c .before .wide .ensures .0, lt-ltb _ _ (c .if1 .left))),
+    )
 
--- src/fields.rt:162:1
 returns-2 : tie.Need-returns-2 Inv-loop μ-loop
 returns-2 c =
-    sym (c .before .loop .inv .1 ∙ each-end (below (c .before .before .before .args .t .now) (c .before .before .before .args .at) (c .before .before .before .args .limit)) (c .before .before .before .args .z) (c .before .loop .i) (c .loop-test .left))
+    let a = c .before .before .before .args in
+    let l = c .before .loop in
+    sym (l .inv .1 ∙ each-end (below (a .t .now) (a .at) (a .limit)) (a .z) (l .i) (c .loop-test .left))
 
 pub all-below-spec : {M : Type 1} → statement M
 all-below-spec =

@@ -1,13 +1,11 @@
 -- `table::fields::all_posts` meets its contract. The loop's invariant: the checks from i on are as good as all of them.
 -- Assumes nothing.
-use Prim.Native.Nat.{ℕ, _+_, _-_, _*_, _<_, _≤_}
-use mathlib.Core.Path.{_≡_, refl, _∙_, ap, sym}
+use Prim.Native.Nat.{ℕ, _-_, _≤_}
+use mathlib.Core.Path.{_≡_, _∙_, sym}
 use mathlib.Core.List.{List}
 use native.Mathlib.Omega.{arith}
 use borrow.Author.Needs.{needs}
-use borrow.Author.Tests.{le-ltb, lt-ltb, eq-eqb, ne-eqb}
-use lib.ListN.{length}
-use lib.Dec.{ltb, eqb}
+use borrow.Author.Tests.{le-ltb, lt-ltb}
 use Rattle.table.specs.Outcome.{Outcome, demand, each}
 use Rattle.table.proofs.Checks.{each-begin, each-go, each-stop, each-end}
 use Rattle.table.specs.Format.{listedAt, placeOf}
@@ -15,9 +13,6 @@ use Rattle.table.specs.Read.{allowed}
 use Rattle.table.proofs.Posts.{posts-below, posts-above, posts-between}
 use Rattle.table.proofs.fields.all_posts.Statement.{statement}
 use Rattle.table.proofs.fields.all_posts.Tie as tie
-use Rattle.table.proofs.fields.all_posts.Reads as reads
-use Rattle.table.proofs.fields.all_posts.Lts as lts
-use Rattle.table.proofs.bytes.wide.Reads as wide-reads
 
 abbrev post : List ℕ → ℕ → ℕ → ℕ → Outcome
 post t first k i = demand (allowed t first k (listedAt t (placeOf first k) i)) 8 (placeOf first k)
@@ -28,91 +23,99 @@ Inv-loop t first k z at i₀ i = (i ≤ z) × (each (post t first k) z 0 ≡ eac
 abbrev μ-loop : tie.MeasureT-loop
 μ-loop t first k z at i₀ i = z - i
 
--- src/fields.rt:181:22
 mul-at : tie.Need-mul-at Inv-loop μ-loop
 mul-at c = search needs
 
--- src/fields.rt:181:14
 add-at : tie.Need-add-at Inv-loop μ-loop
 add-at c = search needs
 
--- src/fields.rt:183:5
 loop-holds : tie.Need-loop-holds Inv-loop μ-loop
-loop-holds c = (search needs, each-begin (post (c .before .args .t .now) (c .before .args .first) (c .before .args .k)) (c .before .args .z))
+loop-holds c =
+    let a = c .before .args in
+    (search needs, each-begin (post (a .t .now) (a .first) (a .k)) (a .z))
 
--- src/fields.rt:184:31
 add-wide : tie.Need-add-wide Inv-loop μ-loop
 add-wide c = search needs
 
--- src/fields.rt:184:31
 add-wide-2 : tie.Need-add-wide-2 Inv-loop μ-loop
 add-wide-2 c = search needs
 
--- src/fields.rt:184:29
 shared-slice-read-wide : tie.Need-shared-slice-read-wide Inv-loop μ-loop
 shared-slice-read-wide c = search needs
 
--- src/fields.rt:184:13
 wide-requires : tie.Need-wide-requires Inv-loop μ-loop
 wide-requires c κs = search needs
 
--- src/fields.rt:186:13
 returns : tie.Need-returns Inv-loop μ-loop
 returns c =
+    let a = c .before .before .before .before .before .before .args in
+    let l = c .before .before .before .before .loop in
     sym
-    (c .before .before .before .before .loop .inv .1
-    ∙ each-stop (post (c .before .before .before .before .before .before .args .t .now) (c .before .before .before .before .before .before .args .first) (c .before .before .before .before .before .before .args .k)) (c .before .before .before .before .before .before .args .z) (c .before .before .before .before .loop .i) 8 (placeOf (c .before .before .before .before .before .before .args .first) (c .before .before .before .before .before .before .args .k)) (c .before .before .before .loop-test .taken)
+    (l .inv .1
+    ∙ each-stop (post (a .t .now) (a .first) (a .k)) (a .z) (l .i) 8 (placeOf (a .first) (a .k))
+    (c .before .before .before .loop-test .taken)
     (simp (← c .before .wide .ensures .0, le-ltb _ _ (c .if1 .taken))))
 
--- src/fields.rt:188:30
 mul-kind : tie.Need-mul-kind Inv-loop μ-loop
 mul-kind c = search needs
 
--- src/fields.rt:188:22
 add-kind : tie.Need-add-kind Inv-loop μ-loop
 add-kind c = search needs
 
--- src/fields.rt:188:20
 shared-slice-read-kind : tie.Need-shared-slice-read-kind Inv-loop μ-loop
 shared-slice-read-kind c = search needs
 
--- src/fields.rt:190:13
 returns-2 : tie.Need-returns-2 Inv-loop μ-loop
 returns-2 c =
+    let a = c .before .before .before .before .before .before .before .before .args in
+    let l = c .before .before .before .before .before .before .loop in
     sym
-    (c .before .before .before .before .before .before .loop .inv .1
-    ∙ each-stop (post (c .before .before .before .before .before .before .before .before .args .t .now) (c .before .before .before .before .before .before .before .before .args .first) (c .before .before .before .before .before .before .before .before .args .k)) (c .before .before .before .before .before .before .before .before .args .z) (c .before .before .before .before .before .before .loop .i) 8 (placeOf (c .before .before .before .before .before .before .before .before .args .first) (c .before .before .before .before .before .before .before .before .args .k)) (c .before .before .before .before .before .loop-test .taken)
+    (l .inv .1
+    ∙ each-stop (post (a .t .now) (a .first) (a .k)) (a .z) (l .i) 8 (placeOf (a .first) (a .k))
+    (c .before .before .before .before .before .loop-test .taken)
     (simp (← c .before .before .before .wide .ensures .0, lt-ltb _ _ (c .before .before .if1 .left), posts-below _ (c .if2 .taken))))
 
--- src/fields.rt:193:13
 returns-3 : tie.Need-returns-3 Inv-loop μ-loop
 returns-3 c =
+    let a = c .before .before .before .before .before .before .before .before .before .args in
+    let l = c .before .before .before .before .before .before .before .loop in
     sym
-    (c .before .before .before .before .before .before .before .loop .inv .1
-    ∙ each-stop (post (c .before .before .before .before .before .before .before .before .before .args .t .now) (c .before .before .before .before .before .before .before .before .before .args .first) (c .before .before .before .before .before .before .before .before .before .args .k)) (c .before .before .before .before .before .before .before .before .before .args .z) (c .before .before .before .before .before .before .before .loop .i) 8 (placeOf (c .before .before .before .before .before .before .before .before .before .args .first) (c .before .before .before .before .before .before .before .before .before .args .k)) (c .before .before .before .before .before .before .loop-test .taken)
-    (simp (← c .before .before .before .before .wide .ensures .0, lt-ltb _ _ (c .before .before .before .if1 .left), posts-above _ (c .if3 .taken))))
+    (l .inv .1
+    ∙ each-stop (post (a .t .now) (a .first) (a .k)) (a .z) (l .i) 8 (placeOf (a .first) (a .k))
+    (c .before .before .before .before .before .before .loop-test .taken)
+    (simp (
+      ← c .before .before .before .before .wide .ensures .0,
+      lt-ltb _ _ (c .before .before .before .if1 .left),
+      posts-above _
+          (c .if3 .taken),
+    )))
 
--- src/fields.rt:195:9
 add-i : tie.Need-add-i Inv-loop μ-loop
 add-i c = search needs
 
--- src/fields.rt:183:5
 loop-less : tie.Need-loop-less Inv-loop μ-loop
 loop-less c = search needs
 
--- src/fields.rt:183:5
 loop-again : tie.Need-loop-again Inv-loop μ-loop
-loop-again c = (
-  omega arith,
-  c .before .before .before .before .before .before .before .loop .inv .1
-      ∙ each-go (post (c .before .before .before .before .before .before .before .before .before .args .t .now) (c .before .before .before .before .before .before .before .before .before .args .first) (c .before .before .before .before .before .before .before .before .before .args .k)) (c .before .before .before .before .before .before .before .before .before .args .z) (c .before .before .before .before .before .before .before .loop .i) (c .before .before .before .before .before .before .loop-test .taken)
-      (simp (← c .before .before .before .before .wide .ensures .0, lt-ltb _ _ (c .before .before .before .if1 .left), posts-between _ (c .before .if2 .left) (c .if3 .left))),
-)
+loop-again c =
+    let a = c .before .before .before .before .before .before .before .before .before .args in
+    let l = c .before .before .before .before .before .before .before .loop in (
+      omega arith,
+      l .inv .1
+          ∙ each-go (post (a .t .now) (a .first) (a .k)) (a .z) (l .i) (c .before .before .before .before .before .before .loop-test .taken)
+          (simp (
+            ← c .before .before .before .before .wide .ensures .0,
+            lt-ltb _ _ (c .before .before .before .if1 .left),
+            posts-between _
+                (c .before .if2 .left) (c .if3 .left),
+          )),
+    )
 
--- src/fields.rt:177:1
 returns-4 : tie.Need-returns-4 Inv-loop μ-loop
 returns-4 c =
-    sym (c .before .loop .inv .1 ∙ each-end (post (c .before .before .before .args .t .now) (c .before .before .before .args .first) (c .before .before .before .args .k)) (c .before .before .before .args .z) (c .before .loop .i) (c .loop-test .left))
+    let a = c .before .before .before .args in
+    let l = c .before .loop in
+    sym (l .inv .1 ∙ each-end (post (a .t .now) (a .first) (a .k)) (a .z) (l .i) (c .loop-test .left))
 
 pub all-posts-spec : {M : Type 1} → statement M
 all-posts-spec =

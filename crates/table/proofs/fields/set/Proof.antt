@@ -1,11 +1,10 @@
--- `table::fields::set` meets its contract: at each `return` the tests on the way say how `fieldsOf` goes at the form of a Set.
+-- `table::fields::set` meets its contract: at each answer the tests on the way say how `fieldsOf` goes at the form of a Set.
 -- Assumes nothing.
 use borrow.Author.Needs.{needs}
 use borrow.Author.Tests.{le-ltb, lt-ltb, eq-eqb, ne-eqb}
+use Rattle.table.proofs.Tests.{fails, holds, last-fails, last-holds}
 use Rattle.table.proofs.fields.set.Statement.{statement}
 use Rattle.table.proofs.fields.set.Tie as tie
-use Rattle.table.proofs.fields.set.Reads as reads
-use Rattle.table.proofs.fields.set.Lts as lts
 
 mul-at : tie.Need-mul-at
 mul-at c = search needs
@@ -19,8 +18,12 @@ add-if1 c = search needs
 shared-slice-read-if1 : tie.Need-shared-slice-read-if1
 shared-slice-read-if1 c = search needs
 
+cast-t9 : tie.Need-cast-t9
+cast-t9 c = search needs
+
 returns : tie.Need-returns
-returns c = simp (le-ltb _ _ (c .if1 .taken))
+returns c =
+    fails _ (le-ltb _ _ (c .if1 .taken))
 
 add-if2 : tie.Need-add-if2
 add-if2 c = search needs
@@ -28,8 +31,12 @@ add-if2 c = search needs
 shared-slice-read-if2 : tie.Need-shared-slice-read-if2
 shared-slice-read-if2 c = search needs
 
+cast-t11 : tie.Need-cast-t11
+cast-t11 c = search needs
+
 returns-2 : tie.Need-returns-2
-returns-2 c = simp (lt-ltb _ _ (c .before .before .if1 .left), ne-eqb _ _ (c .if2 .taken))
+returns-2 c =
+    holds 7 _ (lt-ltb _ _ (c .before .before .if1 .left)) (fails _ (ne-eqb _ _ (c .if2 .taken)))
 
 add-if3 : tie.Need-add-if3
 add-if3 c = search needs
@@ -37,15 +44,18 @@ add-if3 c = search needs
 shared-slice-read-if3 : tie.Need-shared-slice-read-if3
 shared-slice-read-if3 c = search needs
 
+cast-t13 : tie.Need-cast-t13
+cast-t13 c = search needs
+
 returns-3 : tie.Need-returns-3
 returns-3 c =
-    simp
-    (lt-ltb _ _ (c .before .before .before .before .if1 .left), eq-eqb _ _ (c .before .before .if2 .left), ne-eqb _ _ (c .if3 .taken))
+    holds 7 _ (lt-ltb _ _ (c .before .before .before .before .if1 .left))
+    (holds 9 _ (eq-eqb _ _ (c .before .before .if2 .left)) (last-fails (ne-eqb _ _ (c .if3 .taken))))
 
 returns-4 : tie.Need-returns-4
 returns-4 c =
-    simp
-    (lt-ltb _ _ (c .before .before .before .before .if1 .left), eq-eqb _ _ (c .before .before .if2 .left), eq-eqb _ _ (c .if3 .left))
+    holds 7 _ (lt-ltb _ _ (c .before .before .before .before .if1 .left))
+    (holds 9 _ (eq-eqb _ _ (c .before .before .if2 .left)) (last-holds 9 _ (eq-eqb _ _ (c .if3 .left))))
 
 pub set-spec : {M : Type 1} → statement M
 set-spec =
@@ -55,11 +65,14 @@ set-spec =
     add-at
     add-if1
     shared-slice-read-if1
+    cast-t9
     returns
     add-if2
     shared-slice-read-if2
+    cast-t11
     returns-2
     add-if3
     shared-slice-read-if3
+    cast-t13
     returns-3
     returns-4)
