@@ -1,0 +1,17 @@
+pub mod Bools
+pub mod Names
+pub mod Swap
+pub mod Run
+pub mod Exchanged
+pub mod Linked
+pub mod Keeps
+pub mod Reorders
+pub mod Remove
+pub mod SameNames
+pub mod Pull
+pub mod Verdict
+pub mod SameChained
+pub mod Count
+pub mod Inversions
+pub mod Theorems
+pub mod Places

@@ -1,0 +1,42 @@
+-- Lists of step names: which names they hold, and in which order.
+-- Assumes nothing: these are definitions.
+use Prim.Native.Nat.{ℕ, zero, _+_}
+use mathlib.Core.Bool.{Bool, true, false, _&&_, _||_, cond}
+use mathlib.Core.List.{List, [], _∷_}
+use lib.Dec.{eqb}
+use Rattle.trace.specs.Machine.{Name}
+
+-- two names are equal when their actors and their positions are
+abbrev pub eqName : Name → Name → Bool
+eqName x y = eqb (x .actor) (y .actor) && eqb (x .position) (y .position)
+
+-- x is a member of the list
+abbrev pub mem : Name → List Name → Bool
+mem x [] = false
+mem x (y ∷ l) = eqName x y || mem x l
+
+-- each member of the first is a member of the second
+abbrev pub within : List Name → List Name → Bool
+within [] v = true
+within (x ∷ u) v = mem x v && within u v
+
+-- x stands before y in the list
+abbrev pub before : Name → Name → List Name → Bool
+before x y [] = false
+before x y (z ∷ l) = (eqName x z && mem y l) || before x y l
+
+-- some member passes the test
+abbrev pub any : (Name → Bool) → List Name → Bool
+any f [] = false
+any f (x ∷ l) = f x || any f l
+
+-- how many members pass the test
+abbrev pub count : (Name → Bool) → List Name → ℕ
+count f [] = zero
+count f (x ∷ l) = cond (f x) 1 0 + count f l
+
+-- how many pairs the two lists hold in opposite orders (the inversions of one against the other): x before y in the first, y before x in
+-- the second
+abbrev pub inversions : List Name → List Name → ℕ
+inversions [] v = zero
+inversions (x ∷ u) v = count (λ y. before y x v) u + inversions u v
