@@ -1,0 +1,30 @@
+-- What is proved of the definitions. The results:
+-- `Laws`: the site of every table keeps the trace theory's laws;
+-- `FourCases`: the pair verdict is document 01's four cases;
+-- `ReadyMask`: the mask's bits and ones;
+-- `Demand3`: demand 3, of every table that the reader accepts;
+-- `Routes`: the route call's promise can be kept.
+pub mod Upd
+pub mod Ports
+pub mod FourCases
+pub mod Queues
+pub mod Pairing
+pub mod Invariant
+pub mod Looks
+pub mod Laws
+pub mod ReadyMask
+pub mod Checks
+pub mod Demand3
+pub mod Routes
+pub mod ReportBoundCounts
+pub mod ReportBoundNames
+pub mod ReportBoundQueues
+pub mod ReportBoundMail
+pub mod ReportBoundSite
+pub mod ReportBoundLengths
+pub mod ReportBoundSteps
+pub mod ReportBoundCells
+pub mod ReportBoundValues
+pub mod ReportBound
+pub mod Cases
+pub mod Examples

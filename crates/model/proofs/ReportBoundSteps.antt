@@ -1,0 +1,81 @@
+-- No accepted schedule has more entries than the table has actions: each step raises one position by one, and no position passes its count.
+-- Assumes nothing.
+use Prim.Native.Nat.{ℕ, zero, suc, _+_, _≤_, _<_}
+use native.Mathlib.Omega.{arith}
+use mathlib.Core.Path.{_≡_, ap}
+use mathlib.Core.Logic.{_⊎_, inl, inr, _≢_}
+use mathlib.Core.Bool.{true, false}
+use mathlib.Core.List.{List, [], _∷_}
+use lib.Dec.{eqb}
+use borrow.Author.Tests.{ltb-true, eqb-true, eqb-false}
+use lib.ListN.{length}
+use Rattle.table.specs.Format.{actorsOf, countOf}
+use Rattle.trace.specs.Schedule.{accepted, final}
+use Rattle.trace.proofs.Bools.{which}
+use Rattle.trace.proofs.Run.{first-ready, rest-accepted}
+use Rattle.model.specs.Site.{Actor, Site, initial}
+use Rattle.model.specs.Step.{ready, step}
+use Rattle.model.specs.Schedule.{machine}
+use Rattle.model.specs.Bound.{total, actionCount}
+use Rattle.model.proofs.Invariant.{own-position, others-record}
+use Rattle.model.proofs.ReportBoundCounts.{total-le}
+use Rattle.model.proofs.Checks.{ready-parts}
+use Rattle.model.proofs.ReportBoundSite.{InBounds, bounds-initial, bounds-final}
+
+-- one number of a sum raised by one
+total-raised : (f g : ℕ → ℕ) (a n k : ℕ) → k ≤ a → a < k + n → g a ≡ suc (f a) → ((j : ℕ) → j ≢ a → g j ≡ f j)
+    → total g n k ≡ suc (total f n k)
+total-raised f g a zero k l h own other = absurd (omega arith)
+total-raised f g a (suc n) k l h own other = go (which (eqb k a)) (λ e. total-raised f g a n (suc k) e (omega arith) own other)
+  where
+    -- past that number
+    same : (k ≡ a) → total g n (suc k) ≡ total f n (suc k)
+    same e =
+        omega (
+          arith,
+          total-le g f n (suc k) (λ j b c. omega (arith, other j (omega arith))),
+          total-le f g n (suc k) (λ j b c. omega (arith, other j (omega arith))),
+        )
+
+    go : (eqb k a ≡ true) ⊎ (eqb k a ≡ false) → (suc k ≤ a → total g n (suc k) ≡ suc (total f n (suc k)))
+        → total g (suc n) k ≡ suc (total f (suc n) k)
+    go (inl e) rest =
+        let here : k ≡ a = eqb-true k a e in
+        let raised : g k ≡ suc (f k) = rw here own in
+        omega (arith, same here)
+    go (inr e) rest =
+        let ne : k ≢ a = eqb-false k a e in
+        omega (arith, other k ne, rest (omega arith))
+
+module _ (table : List ℕ) where
+  -- the steps that all actors have taken
+  abbrev pub taken : Site → ℕ
+  taken s = total (λ a. s .actor a .position) (actorsOf table) 0
+
+  step-taken : (s : Site) (a : ℕ) → ready table s a ≡ true → taken (step table s a) ≡ suc (taken s)
+  step-taken s a r =
+      total-raised (λ b. s .actor b .position) (λ b. step table s a .actor b .position) a (actorsOf table) 0 (omega arith)
+      (omega (arith, ltb-true a (actorsOf table) (ready-parts table s a r .0))) (own-position table s a)
+      (λ b ne. ap (λ (c : Actor). c .position) (others-record table s b a ne))
+
+  pub schedule-taken : (s : Site) (p : List ℕ) → accepted (machine table) s p ≡ true → taken (final (machine table) s p) ≡ length p + taken s
+  schedule-taken s [] h = omega arith
+  schedule-taken s (a ∷ p) h =
+      omega (
+        arith,
+        schedule-taken (step table s a) p (rest-accepted (machine table) s a p h),
+        step-taken s a (first-ready (machine table) s a p h),
+      )
+
+  -- from any start within bounds; and from a fresh site
+  pub schedule-most : (s : Site) (p : List ℕ) → InBounds table s → accepted (machine table) s p ≡ true → length p + taken s ≤ actionCount table
+  schedule-most s p i h =
+      omega (
+        arith,
+        schedule-taken s p h,
+        total-le (λ a. final (machine table) s p .actor a .position) (countOf table) (actorsOf table) 0
+            (λ a l b. bounds-final table s p i h .position-most a),
+      )
+
+  pub entries-most : (p : List ℕ) → accepted (machine table) initial p ≡ true → length p ≤ actionCount table
+  entries-most p h = omega (arith, schedule-most initial p (bounds-initial table) h)

@@ -1,0 +1,227 @@
+-- Where every byte of the table is below 256, every cell and every value that a communication carries is below 2^32.
+-- Assumes nothing.
+use Prim.Native.Nat.{ℕ, zero, suc, _+_, _^_, _<_}
+use native.Mathlib.Omega.{arith}
+use mathlib.Core.Path.{_≡_}
+use mathlib.Core.Logic.{_⊎_, inl, inr}
+use mathlib.Core.Bool.{Bool, true, false}
+use mathlib.Core.List.{List, [], _∷_}
+use lib.Dec.{eqb, ltb}
+use borrow.Author.Tests.{eqb-true, eqb-false, ltb-true, ltb-false}
+use lib.ListN.{length, getD, set, replicate, length-take, List·getD-map}
+use lib.Seq.{getD-set-same, getD-set-other, set-out}
+use Rattle.table.specs.declared.Action.{Action}
+use Rattle.table.specs.declared.Action.the-variants.{Set, Add, Lesser, Send, Receive, TestAny, WaitAny, Lock, Unlock, MutexTest, MutexWait}
+use Rattle.table.specs.declared.Numbers.{Numbers}
+use Rattle.table.specs.Format.{byteAt, valueAt}
+use Rattle.table.specs.Decode.{decodeAs}
+use Rattle.trace.specs.Machine.{Name}
+use Rattle.trace.specs.Order.{eqName}
+use Rattle.trace.specs.Schedule.{final}
+use Rattle.trace.proofs.Bools.{which}
+use Rattle.model.specs.Site.{upd, Side, sends, receives, Port, opposite, Comm, Mail, Site, name, initial}
+use Rattle.model.specs.Views.{listed, Post, silent, mails, joins, leaves, posts, looks, sent}
+use Rattle.model.specs.Mail.{carried, pairValue, meetWith, mailing}
+use Rattle.model.specs.Local.{Seen, unseen, seen, first, see, placeSeen, pickUp, pickUpSeen, cellsAfter}
+use Rattle.model.specs.Step.{actionAt, nextName, nextAction, step}
+use Rattle.model.specs.Schedule.{machine, endState}
+use Rattle.model.proofs.Invariant.{others-record}
+use Rattle.model.proofs.ReportBoundCells.{own-record}
+
+abbrev pub Small : ℕ → Type 0
+Small x = x < 2 ^ 32
+
+abbrev pub SmallCells : List ℕ → Type 0
+SmallCells cells = (j : ℕ) → Small (getD cells j 0)
+
+set-small : (cells : List ℕ) (i v : ℕ) → SmallCells cells → Small v → SmallCells (set cells i v)
+set-small cells i v h w j = go (which (eqb j i)) (which (ltb i (length cells)))
+  where
+    go : (eqb j i ≡ true) ⊎ (eqb j i ≡ false) → (ltb i (length cells) ≡ true) ⊎ (ltb i (length cells) ≡ false) → Small (getD (set cells i v) j 0)
+    go (inl e) (inl l) = rw (eqb-true j i e, getD-set-same cells i v 0 (ltb-true i (length cells) l)) w
+    go (inl e) (inr l) = rw (set-out cells i v (ltb-false i (length cells) l)) (h j)
+    go (inr e) l = rw (getD-set-other cells i j v 0 (eqb-false j i e)) (h j)
+
+-- ---- the value of a Set
+
+abbrev setValue : Action → ℕ
+setValue (Set cell value) = value
+setValue (Add cell other) = 0
+setValue (Lesser cell other) = 0
+setValue (Send mailbox cell) = 0
+setValue (Receive mailbox cell) = 0
+setValue (TestAny result list) = 0
+setValue (WaitAny result list) = 0
+setValue (Lock mutex) = 0
+setValue (Unlock mutex) = 0
+setValue (MutexTest result list) = 0
+setValue (MutexWait result list) = 0
+
+zeros-small : (n : ℕ) → SmallCells (replicate n 0)
+zeros-small zero j = omega arith
+zeros-small (suc n) zero = omega arith
+zeros-small (suc n) (suc j) = zeros-small n j
+
+module _ (table : List ℕ) (bytes : (j : ℕ) → byteAt table j < 256) where
+  value-small : (at : ℕ) → Small (valueAt table at)
+  value-small at =
+      omega (arith, bytes (at + 4), bytes (at + 4 + 1), bytes (at + 4 + 2), bytes (at + 4 + 2 + 1))
+
+  decoded-small : (kind at : ℕ) → Small (setValue (decodeAs kind table at))
+  unfolding decodeAs
+  decoded-small zero at = value-small at
+  decoded-small (suc kind) at = rw (← List·getD-map setValue) (zeros-small 9 kind)
+
+  action-small : (x : Name) → Small (setValue (actionAt table x))
+  action-small x = decoded-small _ _
+
+-- ---- what a look finds
+
+abbrev SmallSeen : Seen → Type 0
+SmallSeen unseen = Unit {0}
+SmallSeen (seen place number value) = Small place × Small value
+
+place-small : (found : Seen) → SmallSeen found → Small (placeSeen found)
+place-small unseen h = omega arith
+place-small (seen place number value) h = h .0
+
+first-small : (test : ℕ → Bool) (value : ℕ → ℕ) (from : ℕ) (l : List ℕ) → Small (from + length l) → ((k : ℕ) → Small (value k))
+    → SmallSeen (first test value from l)
+first-small test value from [] b h = tt
+first-small test value from (x ∷ l) b h = go (which (test x)) (first-small test value (suc from) l (omega arith) h)
+  where
+    go : (test x ≡ true) ⊎ (test x ≡ false) → SmallSeen (first test value (suc from) l) → SmallSeen (first test value from (x ∷ l))
+    go (inl e) rest = rw e (omega arith, h x)
+    go (inr e) rest = rw e rest
+
+listed-short : (l : Numbers) → Small (1 + length (listed l))
+listed-short l = omega (arith, length-take (l .count) (l .n0 ∷ l .n1 ∷ l .n2 ∷ l .n3 ∷ []))
+
+abbrev pub SmallMail : Mail → Type 0
+SmallMail m = (x : Name) → Small (carried (m .comm x))
+
+see-small : (s : Site) → SmallMail (s .mail) → (a : ℕ) (x : Action) → SmallSeen (see s a (looks x))
+see-small s h a (Set cell value) = tt
+see-small s h a (Add cell other) = tt
+see-small s h a (Lesser cell other) = tt
+see-small s h a (Send mailbox cell) = tt
+see-small s h a (Receive mailbox cell) = tt
+see-small s h a (TestAny result list) = first-small _ _ 1 (listed list) (listed-short list) (λ k. h (name a k))
+see-small s h a (WaitAny result list) = first-small _ _ 1 (listed list) (listed-short list) (λ k. h (name a k))
+see-small s h a (Lock mutex) = tt
+see-small s h a (Unlock mutex) = tt
+see-small s h a (MutexTest result list) = first-small _ _ 1 (listed list) (listed-short list) (λ k. omega arith)
+see-small s h a (MutexWait result list) = first-small _ _ 1 (listed list) (listed-short list) (λ k. omega arith)
+
+-- ---- the cells after a local step
+
+pickUp-small : (x : Action) (v : ℕ) (cells : List ℕ) → SmallCells cells → Small v → SmallCells (pickUp x v cells)
+pickUp-small (Set cell value) v cells h w = h
+pickUp-small (Add cell other) v cells h w = h
+pickUp-small (Lesser cell other) v cells h w = h
+pickUp-small (Send mailbox cell) v cells h w = h
+pickUp-small (Receive mailbox cell) v cells h w = set-small cells cell v h w
+pickUp-small (TestAny result list) v cells h w = h
+pickUp-small (WaitAny result list) v cells h w = h
+pickUp-small (Lock mutex) v cells h w = h
+pickUp-small (Unlock mutex) v cells h w = h
+pickUp-small (MutexTest result list) v cells h w = h
+pickUp-small (MutexWait result list) v cells h w = h
+
+pickUpSeen-small : (own : ℕ → Action) (found : Seen) (cells : List ℕ) → SmallCells cells → SmallSeen found → SmallCells (pickUpSeen own found cells)
+pickUpSeen-small own unseen cells h w = h
+pickUpSeen-small own (seen place number value) cells h w = pickUp-small (own number) value cells h (w .1)
+
+cellsAfter-small : (own : ℕ → Action) (x : Action) (found : Seen) (cells : List ℕ) → SmallCells cells → Small (setValue x) → SmallSeen found
+    → SmallCells (cellsAfter own x found cells)
+unfolding cellsAfter
+cellsAfter-small own (Set cell value) found cells h x w = set-small cells cell value h x
+cellsAfter-small own (Add cell other) found cells h x w = set-small cells cell _ h (omega arith)
+cellsAfter-small own (Lesser cell other) found cells h x w = set-small cells cell _ h (omega (arith, h cell))
+cellsAfter-small own (Send mailbox cell) found cells h x w = h
+cellsAfter-small own (Receive mailbox cell) found cells h x w = h
+cellsAfter-small own (TestAny result list) found cells h x w =
+    set-small (pickUpSeen own found cells) result _ (pickUpSeen-small own found cells h w) (place-small found w)
+cellsAfter-small own (WaitAny result list) found cells h x w =
+    set-small (pickUpSeen own found cells) result _ (pickUpSeen-small own found cells h w) (place-small found w)
+cellsAfter-small own (Lock mutex) found cells h x w = h
+cellsAfter-small own (Unlock mutex) found cells h x w = h
+cellsAfter-small own (MutexTest result list) found cells h x w = set-small cells result _ h (place-small found w)
+cellsAfter-small own (MutexWait result list) found cells h x w = set-small cells result _ h (place-small found w)
+
+-- ---- the values that communications carry
+
+sent-small : (x : Action) (cells : List ℕ) → SmallCells cells → Small (sent x cells)
+sent-small (Set cell value) cells h = omega arith
+sent-small (Add cell other) cells h = omega arith
+sent-small (Lesser cell other) cells h = omega arith
+sent-small (Send mailbox cell) cells h = h cell
+sent-small (Receive mailbox cell) cells h = omega arith
+sent-small (TestAny result list) cells h = omega arith
+sent-small (WaitAny result list) cells h = omega arith
+sent-small (Lock mutex) cells h = omega arith
+sent-small (Unlock mutex) cells h = omega arith
+sent-small (MutexTest result list) cells h = omega arith
+sent-small (MutexWait result list) cells h = omega arith
+
+pair-small : (d : Side) (v w : ℕ) → Small v → Small w → Small (pairValue d v w)
+pair-small sends v w h k = omega arith
+pair-small receives v w h k = omega arith
+
+upd-small : (f : Name → Comm) (x : Name) (c : Comm) → ((y : Name) → Small (carried (f y))) → Small (carried c) → (y : Name)
+    → Small (carried (upd eqName f x c y))
+upd-small f x c h new y = go (which (eqName y x))
+  where
+    go : (eqName y x ≡ true) ⊎ (eqName y x ≡ false) → Small (carried (upd eqName f x c y))
+    go (inl e) = rw e new
+    go (inr e) = rw e (h y)
+
+meeting-small : (l : List Name) (P : Port) (x : Name) (v : ℕ) (m : Mail) → SmallMail m → Small v → SmallMail (meetWith l P x v m)
+meeting-small [] P x v m h w = upd-small (m .comm) x _ h w
+meeting-small (y ∷ l) P x v m h w =
+    let both : Small (pairValue (P .side) v (carried (m .comm y))) = pair-small (P .side) v _ w (h y) in
+    upd-small _ x _ (upd-small (m .comm) y _ h both) both
+
+mailing-small : (p : Post) (x : Name) (v : ℕ) (m : Mail) → SmallMail m → Small v → SmallMail (mailing p x v m)
+mailing-small silent x v m h w = h
+mailing-small (mails P) x v m h w = meeting-small (m .waiting (opposite P)) P x v m h w
+mailing-small (joins k) x v m h w = h
+mailing-small (leaves k) x v m h w = h
+
+-- ---- every step
+
+pub record SmallSite (s : Site) : Type 0 where
+  pub cells : (a : ℕ) → SmallCells (s .actor a .cells)
+  pub values : SmallMail (s .mail)
+
+pub small-initial : SmallSite initial
+unfolding initial
+small-initial = record { cells = λ a. zeros-small 8; values = λ x. omega arith }
+
+module _ (table : List ℕ) (bytes : (j : ℕ) → byteAt table j < 256) where
+  step-cells : (s : Site) (a : ℕ) → SmallSite s → (b : ℕ) → SmallCells (step table s a .actor b .cells)
+  step-cells s a h b = go (which (eqb b a))
+    where
+      go : (eqb b a ≡ true) ⊎ (eqb b a ≡ false) → SmallCells (step table s a .actor b .cells)
+      go (inl e) =
+          rw (eqb-true b a e, own-record table s a)
+          (cellsAfter-small (λ k. actionAt table (name a k)) (nextAction table s a) (see s a (looks (nextAction table s a))) (s .actor a .cells)
+          (h .cells a) (action-small table bytes (nextName table s a)) (see-small s (h .values) a (nextAction table s a)))
+      go (inr e) = rw (others-record table s b a (eqb-false b a e)) (h .cells b)
+
+  pub small-step : (s : Site) (a : ℕ) → SmallSite s → SmallSite (step table s a)
+  unfolding step
+  small-step s a h =
+      record {
+        cells = step-cells s a h;
+        values =
+            mailing-small (posts (nextAction table s a)) (nextName table s a) _ (s .mail) (h .values)
+            (sent-small (nextAction table s a) (s .actor a .cells) (h .cells a));
+      }
+
+  pub small-final : (s : Site) (p : List ℕ) → SmallSite s → SmallSite (final (machine table) s p)
+  small-final s [] h = h
+  small-final s (a ∷ p) h = small-final (step table s a) p (small-step s a h)
+
+  pub small-end : (p : List ℕ) → SmallSite (endState table p)
+  small-end p = small-final initial p small-initial

@@ -1,0 +1,89 @@
+-- Questions about the model at given inputs, with answers that compute: the form of document 01's marked cases and of our own examples.
+-- Assumes nothing: these are definitions.
+use Prim.Native.Nat.{ℕ}
+use mathlib.Core.Path.{_≡_}
+use mathlib.Core.Bool.{Bool, true, false, _&&_, cond}
+use mathlib.Core.List.{List, [], _∷_, map}
+use lib.Dec.{eqb}
+use lib.ListN.{getD, replicate}
+use Rattle.table.specs.Outcome.{Outcome}
+use Rattle.table.specs.Read.{readOf}
+use Rattle.trace.specs.Machine.{Machine, Name}
+use Rattle.trace.specs.Schedule.{accepted, names}
+use Rattle.trace.specs.Chain.{swapAt, independentAt}
+use Rattle.model.specs.Site.{initial}
+use Rattle.model.specs.Ready.{ReadyAnswer}
+use Rattle.model.specs.Report.{report}
+use Rattle.model.specs.Schedule.{machine, endState}
+use Rattle.model.specs.Calls.{Result, reportRoom, runOf, readyOf, PairVerdict, pairOf, SameVerdict, sameOf}
+
+-- two lists of numbers are equal
+abbrev pub eqList : List ℕ → List ℕ → Bool
+eqList [] [] = true
+eqList [] (y ∷ m) = false
+eqList (x ∷ l) [] = false
+eqList (x ∷ l) (y ∷ m) = eqb x y && eqList l m
+
+-- these positions are a chain from the first schedule to the second
+abbrev pub isChain : (M : Machine) → M .State → (positions first second : List ℕ) → Bool
+isChain M s [] p q = eqList p q
+isChain M s (k ∷ ks) p q = (accepted M s p && independentAt (M .dep) k (names M s p)) && isChain M s ks (swapAt k p) q
+
+-- how two schedules end: with equal reports, with different ones, or one of them is not accepted
+pub data Ends : Type 0 where
+  alike apart unaccepted : Ends
+
+abbrev pub compareEnds : (table first second : List ℕ) → Ends
+compareEnds table first second =
+    cond
+    (accepted (machine table) initial first && accepted (machine table) initial second)
+    (cond (eqList (report table (endState table first)) (report table (endState table second))) alike apart)
+    unaccepted
+
+pub data Question : Type 0 where
+  -- what reading the table gives
+  read : (table : List ℕ) → Question
+  -- the result of a run with a report buffer of 2,912 zeros; what a cell of an actor holds after the schedule
+  run : (table schedule : List ℕ) → Question
+  cell : (table schedule : List ℕ) (actor number : ℕ) → Question
+  -- the results of ready, pair and same
+  ready : (table schedule : List ℕ) → Question
+  pair : (table : List ℕ) (x y : Name) → Question
+  same : (table first second : List ℕ) → Question
+  -- whether the positions are a route from the first schedule to the second; how the two end
+  route : (table positions first second : List ℕ) → Question
+  ends : (table first second : List ℕ) → Question
+
+pub data Answer : Type 0 where
+  outcome : Outcome → Answer
+  ran : Result ℕ → Answer
+  holds : (value : ℕ) → Answer
+  readied : Result ReadyAnswer → Answer
+  paired : Result PairVerdict → Answer
+  judged : Result SameVerdict → Answer
+  routed : Bool → Answer
+  ended : Ends → Answer
+
+-- the model's answer
+abbrev pub ask : Question → Answer
+ask (read table) = outcome (readOf table)
+ask (run table schedule) = ran (runOf table schedule (replicate reportRoom 0) .result)
+ask (cell table schedule actor number) = holds (getD (endState table schedule .actor actor .cells) number 0)
+ask (ready table schedule) = readied (readyOf table schedule)
+ask (pair table x y) = paired (pairOf table x y)
+ask (same table first second) = judged (sameOf table first second)
+ask (route table positions first second) = routed (isChain (machine table) initial positions first second)
+ask (ends table first second) = ended (compareEnds table first second)
+
+-- a claim: the question has this answer
+pub record Claim : Type 0 where
+  pub question : Question
+  pub answer : Answer
+
+infix 70 _⇒_
+abbrev pub _⇒_ : Question → Answer → Claim
+question ⇒ answer = record { question = question; answer = answer }
+
+-- the model answers every claim of the list as it says
+abbrev pub AllHold : List Claim → Type 0
+AllHold claims = map (λ c. ask (c .question)) claims ≡ map (λ c. c .answer) claims

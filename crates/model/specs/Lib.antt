@@ -1,0 +1,21 @@
+-- Document 01 as definitions, in its order: the state, an action's views, stepping, the ready answer, the pair verdict, the state report, and
+-- the outcome of each call for every input. Then what is proved of them: the four cases of the pair verdict, and demand 3.
+pub mod Site
+pub mod Views
+pub mod Mutex
+pub mod Mail
+pub mod Local
+pub mod Step
+pub mod Ready
+pub mod Pair
+pub mod Report
+pub mod Schedule
+pub mod Calls
+pub mod Route
+pub mod FourCases
+pub mod ReadyMask
+pub mod Demand3
+pub mod Bound
+pub mod Claims
+pub mod Cases
+pub mod Examples

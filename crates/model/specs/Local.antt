@@ -1,0 +1,75 @@
+-- What a step sees of the rest of the state, and the local step that its own record takes.
+-- Assumes nothing: these are definitions.
+use Prim.Native.Nat.{ℕ, suc, _+_, _%_, _^_, min}
+use mathlib.Core.Bool.{Bool, true, false, cond}
+use mathlib.Core.List.{List, [], _∷_}
+use lib.ListN.{getD, set}
+use Rattle.table.specs.declared.Action.{Action}
+use Rattle.table.specs.declared.Action.the-variants.{Set, Add, Lesser, Send, Receive, TestAny, WaitAny, Lock, Unlock, MutexTest, MutexWait}
+use Rattle.model.specs.Site.{Actor, Site, name}
+use Rattle.model.specs.Views.{Look, blind, communications, mutexes}
+use Rattle.model.specs.Mutex.{owns}
+use Rattle.model.specs.Mail.{isDone, carried}
+
+-- what a look finds: nothing; or the first place in its list, counted from 1, that it looks for, with the number listed there and the value of
+-- that communication (0 for a mutex)
+pub data Seen : Type 0 where
+  unseen : Seen
+  seen : (place number value : ℕ) → Seen
+
+-- the first place that passes the test, the list's first place being `from`
+abbrev pub first : (ℕ → Bool) → (ℕ → ℕ) → ℕ → List ℕ → Seen
+first test value from [] = unseen
+first test value from (x ∷ l) = cond (test x) (seen from x (value x)) (first test value (suc from) l)
+
+-- what an actor's look finds: a communication that is done, or a mutex that the actor owns
+abbrev pub see : Site → ℕ → Look → Seen
+see s a blind = unseen
+see s a (communications l) = first (λ k. isDone (s .mail .comm (name a k))) (λ k. carried (s .mail .comm (name a k))) 1 l
+see s a (mutexes l) = first (λ m. owns (s .queue m) a) (λ m. 0) 1 l
+
+abbrev pub isSeen : Seen → Bool
+isSeen unseen = false
+isSeen (seen place number value) = true
+
+-- the place, or 0
+abbrev pub placeSeen : Seen → ℕ
+placeSeen unseen = 0
+placeSeen (seen place number value) = place
+
+-- the value picked up goes into a Receive's cell; of any other action nothing is picked up
+abbrev pub pickUp : Action → ℕ → List ℕ → List ℕ
+pickUp (Set cell value) v cells = cells
+pickUp (Add cell other) v cells = cells
+pickUp (Lesser cell other) v cells = cells
+pickUp (Send mailbox cell) v cells = cells
+pickUp (Receive mailbox cell) v cells = set cells cell v
+pickUp (TestAny result list) v cells = cells
+pickUp (WaitAny result list) v cells = cells
+pickUp (Lock mutex) v cells = cells
+pickUp (Unlock mutex) v cells = cells
+pickUp (MutexTest result list) v cells = cells
+pickUp (MutexWait result list) v cells = cells
+
+-- the communication that the look found is picked up; `own` gives the actor's actions by number
+abbrev pub pickUpSeen : (ℕ → Action) → Seen → List ℕ → List ℕ
+pickUpSeen own unseen cells = cells
+pickUpSeen own (seen place number value) cells = pickUp (own number) value cells
+
+-- the cells after an action: a Set, Add and Lesser; after a test or wait the place goes into the result cell, which is written last
+unfoldable pub cellsAfter : (ℕ → Action) → Action → Seen → List ℕ → List ℕ
+cellsAfter own (Set cell value) found cells = set cells cell value
+cellsAfter own (Add cell other) found cells = set cells cell ((getD cells cell 0 + getD cells other 0) % 2 ^ 32)
+cellsAfter own (Lesser cell other) found cells = set cells cell (min (getD cells cell 0) (getD cells other 0))
+cellsAfter own (Send mailbox cell) found cells = cells
+cellsAfter own (Receive mailbox cell) found cells = cells
+cellsAfter own (TestAny result list) found cells = set (pickUpSeen own found cells) result (placeSeen found)
+cellsAfter own (WaitAny result list) found cells = set (pickUpSeen own found cells) result (placeSeen found)
+cellsAfter own (Lock mutex) found cells = cells
+cellsAfter own (Unlock mutex) found cells = cells
+cellsAfter own (MutexTest result list) found cells = set cells result (placeSeen found)
+cellsAfter own (MutexWait result list) found cells = set cells result (placeSeen found)
+
+-- the local step of an actor's own record: the next action follows
+abbrev pub local : (ℕ → Action) → Action → Seen → Actor → Actor
+local own x found r = record { position = suc (r .position); cells = cellsAfter own x found (r .cells) }

@@ -1,0 +1,52 @@
+-- Which actors are ready, and what the next action of one does: it looks, its own record takes its local step, and it posts.
+-- Assumes nothing: these are definitions.
+use Prim.Native.Nat.{ℕ}
+use mathlib.Core.Bool.{Bool, not, _&&_, _||_}
+use mathlib.Core.List.{List}
+use lib.Dec.{eqb, ltb}
+use Rattle.table.specs.declared.Action.{Action}
+use Rattle.table.specs.Format.{actorsOf, countOf}
+use Rattle.table.specs.Decode.{actionOf}
+use Rattle.trace.specs.Machine.{Name}
+use Rattle.model.specs.Site.{Site, upd, name}
+use Rattle.model.specs.Views.{posts, looks, waits, sent}
+use Rattle.model.specs.Mutex.{queueing}
+use Rattle.model.specs.Mail.{mailing}
+use Rattle.model.specs.Local.{see, isSeen, local}
+
+module _ (table : List ℕ) where
+  -- the action that a step's name stands for
+  abbrev pub actionAt : Name → Action
+  actionAt x = actionOf table (x .actor) (x .position)
+
+  -- the name of an actor's next step
+  abbrev pub nextName : Site → ℕ → Name
+  nextName s a = name a (s .actor a .position)
+
+  abbrev pub nextAction : Site → ℕ → Action
+  nextAction s a = actionAt (nextName s a)
+
+  -- an actor is finished when its position has come to its action count, which no step passes
+  abbrev pub unfinished : Site → ℕ → Bool
+  unfinished s a = ltb (s .actor a .position) (countOf table a)
+
+  -- a step need not wait, or its look finds something
+  abbrev pub passes : Site → ℕ → Action → Bool
+  passes s a x = not (waits x) || isSeen (see s a (looks x))
+
+  -- "ready": an actor of the table that is not finished and need not wait
+  unfoldable pub ready : Site → ℕ → Bool
+  ready s a = ltb a (actorsOf table) && (unfinished s a && passes s a (nextAction s a))
+
+  -- the state that an action of an actor leaves
+  abbrev pub perform : Site → ℕ → Action → Site
+  perform s a x =
+      let me : Name = nextName s a in
+      record {
+        actor = upd eqb (s .actor) a (local (λ k. actionAt (name a k)) x (see s a (looks x)) (s .actor a));
+        mail = mailing (posts x) me (sent x (s .actor a .cells)) (s .mail);
+        queue = queueing (posts x) a (s .queue);
+      }
+
+  unfoldable pub step : Site → ℕ → Site
+  step s a = perform s a (nextAction s a)
