@@ -1,0 +1,55 @@
+-- The ready answer's parts over the engine's arrays.
+-- Assumes nothing: these are definitions.
+use Prim.Native.Nat.{ℕ, _<_, _^_}
+use mathlib.Core.Path.{_≡_}
+use mathlib.Core.Bool.{Bool, not, _&&_}
+use mathlib.Core.List.{List}
+use lib.Dec.{ltb}
+use lib.ListN.{length, getD}
+use Rattle.table.specs.Format.{actorsOf, countOf}
+use Rattle.table.specs.Promise.{Accepted}
+use Rattle.model.specs.Site.{Site}
+use Rattle.model.specs.Step.{passes}
+use Rattle.model.specs.Ready as Model
+use Rattle.engine.specs.State.{mailOf, queuesOf, siteOf, freshActor, QueueRoom}
+use Rattle.engine.specs.StepParts.{nextOf, seenFrom}
+use Rattle.engine.specs.declared.Actor.{Actor}
+use Rattle.engine.specs.declared.ready.Ending.{Ending}
+use Rattle.engine.specs.declared.ready.Ending.the-variants.{Finished, Stuck, Going}
+use Rattle.engine.specs.declared.ready.Readiness.{Readiness}
+
+-- document 01's ending for each case
+abbrev pub endingAs : Ending → Model.Ending
+endingAs Finished = Model.finished
+endingAs Stuck = Model.stuck
+endingAs Going = Model.going
+
+abbrev pub readinessOf : Readiness → Model.ReadyAnswer
+readinessOf r = record { mask = r .mask; count = r .count; ending = endingAs (r .ending) }
+
+-- the state, with the ports' logs, in which readiness does not look
+abbrev pub siteWith : List Actor → (comms entries lens log heads tails : List ℕ) → Site
+siteWith actors comms entries lens log heads tails = siteOf actors comms log heads tails entries lens
+
+-- what a look at one actor may rely on
+pub record Looked (table : List ℕ) (a : ℕ) (comms entries lens : List ℕ) : Type 0 where
+  pub accepted : Accepted table
+  pub actor : a < actorsOf table
+  pub comms-long : length comms ≡ 256
+  pub valued : (j : ℕ) → getD comms j 0 < 2 ^ 42
+  pub queue-room : QueueRoom entries lens
+
+pub record Answerable (table : List ℕ) (actors : List Actor) (comms entries lens : List ℕ) : Type 0 where
+  pub accepted : Accepted table
+  pub actors-long : length actors ≡ 8
+  pub comms-long : length comms ≡ 256
+  pub valued : (j : ℕ) → getD comms j 0 < 2 ^ 42
+  pub queue-room : QueueRoom entries lens
+
+-- an actor with the record r is not finished and need not wait
+abbrev pub looksReady : List ℕ → ℕ → Actor → (comms entries lens log heads tails : List ℕ) → Bool
+looksReady table a r comms entries lens log heads tails =
+    ltb (r .position) (countOf table a) && passes table (seenFrom r (mailOf comms log heads tails) (queuesOf entries lens)) a (nextOf table a r)
+
+abbrev pub everyoneFinished : List ℕ → ℕ → List Actor → Bool
+everyoneFinished table n actors = Model.all (λ a. not (ltb (getD actors a freshActor .position) (countOf table a))) n 0

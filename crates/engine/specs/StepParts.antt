@@ -1,0 +1,82 @@
+-- What one step takes and leaves: its own record, the mail and the queues.
+-- Assumes nothing: these are definitions.
+use Prim.Native.Nat.{ℕ, _+_, _<_, _≤_, _^_}
+use mathlib.Core.Path.{_≡_}
+use mathlib.Core.Bool.{Bool, true, false}
+use mathlib.Core.List.{List}
+use lib.ListN.{length, getD}
+use Rattle.table.specs.declared.Action.{Action}
+use Rattle.table.specs.declared.Action.the-variants.{Set, Add, Lesser, Send, Receive, TestAny, WaitAny, Lock, Unlock, MutexTest, MutexWait}
+use Rattle.table.specs.Format.{actorsOf, countOf}
+use Rattle.table.specs.Decode.{actionOf}
+use Rattle.table.specs.Promise.{Accepted}
+use Rattle.model.specs.Site.{Site, Mail, name}
+use Rattle.model.specs.Views.{looks, posts, sent, waits}
+use Rattle.model.specs.Mutex.{queueing, join}
+use Rattle.model.specs.Mail.{mailing}
+use Rattle.model.specs.Local as Local
+use Rattle.model.specs.Step.{passes}
+use Rattle.engine.specs.State.{recordOf, mailOf, queuesOf, MailRoom, QueueRoom}
+use Rattle.engine.specs.declared.Actor.{Actor}
+use Rattle.engine.specs.declared.Stepped.{Stepped}
+
+-- an actor's record has its eight cells
+abbrev pub EightCells : Actor → Type 0
+EightCells r = length (r .cells) ≡ 8
+
+-- the site as a step of one actor sees it: the others' records play no part
+abbrev pub seenFrom : Actor → Mail → (ℕ → List ℕ) → Site
+seenFrom r mail queue = record { actor = λ a. recordOf r; mail = mail; queue = queue }
+
+-- the actor's next action
+abbrev pub nextOf : List ℕ → ℕ → Actor → Action
+nextOf table a r = actionOf table a (r .position)
+
+-- what a step may rely on
+pub record Steppable (table : List ℕ) (a : ℕ) (r : Actor) (comms log heads tails entries lens : List ℕ) : Type 0 where
+  pub accepted : Accepted table
+  pub actor : a < actorsOf table
+  pub unfinished : r .position < countOf table a
+  pub eight : EightCells r
+  pub mail-room : MailRoom comms log heads tails
+  pub queue-room : QueueRoom entries lens
+  -- a step that need not wait has room to post
+  pub tail-room : waits (nextOf table a r) ≡ false → (n : ℕ) → getD tails n 0 < 256
+  pub join-room : (m : ℕ) → length (join (queuesOf entries lens m) a) ≤ 8
+
+-- a number that a look found is an action whose cell, where it is a Receive, is in range
+abbrev pub CellFits : Action → Type 0
+CellFits (Set cell value) = Unit {0}
+CellFits (Add cell other) = Unit {0}
+CellFits (Lesser cell other) = Unit {0}
+CellFits (Send mailbox cell) = Unit {0}
+CellFits (Receive mailbox cell) = cell < 8
+CellFits (TestAny result list) = Unit {0}
+CellFits (WaitAny result list) = Unit {0}
+CellFits (Lock mutex) = Unit {0}
+CellFits (Unlock mutex) = Unit {0}
+CellFits (MutexTest result list) = Unit {0}
+CellFits (MutexWait result list) = Unit {0}
+
+abbrev pub Picks : List ℕ → ℕ → Local.Seen → Type 0
+Picks table a Local.unseen = Unit {0}
+Picks table a (Local.seen place number value) = CellFits (actionOf table a number)
+
+-- a place is from 1 to 4
+abbrev pub SmallPlace : Local.Seen → Type 0
+SmallPlace Local.unseen = Unit {0}
+SmallPlace (Local.seen place number value) = place ≤ 4
+
+-- a step that was ready, of the action x, was taken as the model takes it
+pub record Took (table : List ℕ) (a : ℕ) (x : Action) (r : Actor) (mail : Mail) (queue : ℕ → List ℕ) (mail′ : Mail) (queue′ : ℕ → List ℕ) (next : Actor) : Type 0 where
+  pub record-next : recordOf next ≡ Local.local (actionOf table a) x (Local.see (seenFrom r mail queue) a (looks x)) (recordOf r)
+  pub mail-next : mail′ ≡ mailing (posts x) (name a (r .position)) (sent x (r .cells)) mail
+  pub queue-next : queue′ ≡ queueing (posts x) a queue
+
+-- what a step of the action x leaves: whether it was ready; its record, the mail and the queues; and room for the next step
+pub record StepTaken (table : List ℕ) (a : ℕ) (x : Action) (r : Actor) (comms log heads tails entries lens comms′ log′ heads′ tails′ entries′ lens′ : List ℕ) (s : Stepped) : Type 0 where
+  pub ready-right : s .ready ≡ passes table (seenFrom r (mailOf comms log heads tails) (queuesOf entries lens)) a x
+  pub took : Took table a x r (mailOf comms log heads tails) (queuesOf entries lens) (mailOf comms′ log′ heads′ tails′) (queuesOf entries′ lens′) (s .actor)
+  pub mail-room : MailRoom comms′ log′ heads′ tails′
+  pub queue-room : QueueRoom entries′ lens′
+  pub grown : (n : ℕ) → getD tails′ n 0 ≤ getD tails n 0 + 1
