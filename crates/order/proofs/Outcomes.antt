@@ -1,0 +1,120 @@
+-- The calls' outcomes by what is known of their checks: refused, or accepted with the state that the engine's arrays hold.
+-- Assumes nothing.
+use mathlib.Core.Path.{_≡_, refl, _∙_, ap, sym, subst}
+use mathlib.Core.List.{List, _++_}
+use mathlib.Core.Logic.{_⊎_, inl, inr}
+use mathlib.Core.Bool.{Bool, true, false}
+use Prim.Native.Nat.{ℕ, _<_, _≤_}
+use native.Mathlib.Omega.{arith}
+use borrow.Author.Tests.{le-leb, lt-leb, ltb-true, ltb-false}
+use lib.Dec.{leb, ltb}
+use lib.ListN.{length, getD, drop}
+use Rattle.table.specs.Outcome.{Outcome, accepted, refused, demand, _⨾_}
+use Rattle.table.specs.Format.{actorsOf, countOf}
+use Rattle.table.specs.Read.{readOf}
+use Rattle.table.specs.Promise.{Accepted}
+use Rattle.trace.specs.Schedule.{accepted as taken}
+use Rattle.trace.proofs.Bools.{which}
+use Rattle.model.specs.Site.{Site, Actor as Record, initial}
+use Rattle.model.specs.Ready.{ReadyAnswer, readyAnswer}
+use Rattle.model.specs.Report.{report}
+use Rattle.model.specs.Schedule.{machine, endState, firstNumbers, checkSchedule}
+use Rattle.model.specs.Calls.{Result, gives, refuses, answer, lentAfter, runChecks, runOf, readyChecks, readyOf}
+use Rattle.model.proofs.Checks.{checks-taken}
+use Rattle.model.proofs.ReportBoundSite.{bounds-end}
+use Rattle.model.proofs.ReportBound.{reports-fit}
+use Rattle.engine.specs.State.{recordsOf, siteOf}
+use Rattle.engine.specs.PlayParts.{Ended}
+use Rattle.engine.specs.ReadyParts.{Answerable}
+use Rattle.engine.specs.ReportParts.{Reportable}
+use Rattle.engine.specs.declared.play.Played.{Played}
+
+-- a refused check decides
+pub then-refused : (o after : Outcome) (n p : ℕ) → o ≡ refused n p → (o ⨾ after) ≡ refused n p
+then-refused o after n p e = ap (λ (x : Outcome). x ⨾ after) e
+
+pub then-accepted : (o after : Outcome) → o ≡ accepted → (o ⨾ after) ≡ after
+then-accepted o after e = ap (λ (x : Outcome). x ⨾ after) e
+
+module _ (table schedule buffer : List ℕ) where
+  pub run-refused : (n p : ℕ) → runChecks table schedule buffer ≡ refused n p
+      → (refuses n p ≡ runOf table schedule buffer .result) × (buffer ≡ runOf table schedule buffer .lent)
+  unfolding runOf
+  run-refused n p e = (
+    sym (ap (λ (o : Outcome). answer o (length (report table (endState table schedule)))) e),
+    sym (ap (λ (o : Outcome). lentAfter o (report table (endState table schedule)) buffer) e),
+  )
+
+  pub run-given : (r : ℕ) (after : List ℕ) (s : Site) → s ≡ endState table schedule → runChecks table schedule buffer ≡ accepted
+      → r ≡ length (report table s) → after ≡ report table s ++ drop (length (report table s)) buffer
+      → (gives r ≡ runOf table schedule buffer .result) × (after ≡ runOf table schedule buffer .lent)
+  unfolding runOf
+  run-given r after s end e count bytes = (
+    ap gives (count ∙ ap (λ (t : Site). length (report table t)) end)
+        ∙ sym (ap (λ (o : Outcome). answer o (length (report table (endState table schedule)))) e),
+    bytes ∙ ap (λ (t : Site). report table t ++ drop (length (report table t)) buffer) end
+        ∙ sym (ap (λ (o : Outcome). lentAfter o (report table (endState table schedule)) buffer) e),
+  )
+
+  pub small-checks : length buffer < 2912 → runChecks table schedule buffer ≡ refused 10 0
+  small-checks h = rw (lt-leb 2912 (length buffer) h)
+
+  -- with room, the checks are ready's
+  pub run-checks : 2912 ≤ length buffer → runChecks table schedule buffer ≡ readyChecks table schedule
+  run-checks h = rw (le-leb 2912 (length buffer) h)
+
+module _ (table schedule : List ℕ) where
+  pub ready-refused : (n p : ℕ) → readyChecks table schedule ≡ refused n p → refuses n p ≡ readyOf table schedule
+  unfolding readyOf
+  ready-refused n p e = sym (ap (λ (o : Outcome). answer o (readyAnswer table (endState table schedule))) e)
+
+  pub ready-given : (a : ReadyAnswer) (s : Site) → s ≡ endState table schedule → readyChecks table schedule ≡ accepted → a ≡ readyAnswer table s
+      → gives a ≡ readyOf table schedule
+  unfolding readyOf
+  ready-given a s end e right =
+      ap gives (right ∙ ap (readyAnswer table) end) ∙ sym (ap (λ (o : Outcome). answer o (readyAnswer table (endState table schedule))) e)
+
+-- an accepted schedule's end in arrays can be reported and asked
+module _ {table schedule comms log heads tails entries lens names : List ℕ} {r : Played} (ok : Accepted table)
+    (fine : checkSchedule firstNumbers table schedule ≡ accepted) (E : Ended table schedule comms log heads tails entries lens names r) where
+  all-taken : taken (machine table) initial schedule ≡ true
+  all-taken = checks-taken table firstNumbers initial 0 schedule fine
+
+  position-small : (a : ℕ) → recordsOf (r .actors) a .position < 256
+  position-small a = subst (λ (s : Site). s .actor a .position < 256) (sym (E .site)) (go (which (ltb a (actorsOf table))))
+    where
+      go : (ltb a (actorsOf table) ≡ true) ⊎ (ltb a (actorsOf table) ≡ false) → endState table schedule .actor a .position < 256
+      go (inl h) =
+          let most = bounds-end table schedule all-taken .position-most a in
+          let few = ok .actions-most a (ltb-true a (actorsOf table) h) in omega arith
+      go (inr h) = let none = bounds-end table schedule all-taken .absent-still a (ltb-false a (actorsOf table) h) in omega arith
+
+  pub reportable : (buffer : List ℕ) → 2912 ≤ length buffer → Reportable table (r .actors) comms log heads tails entries lens buffer
+  reportable buffer room =
+      record {
+        accepted = ok;
+        positions = position-small;
+        mail = E .mail-room;
+        queues = E .queue-room;
+        room =
+            let fit = reports-fit table ok in
+            let small : length (report table (endState table schedule)) ≤ length buffer = omega (arith, fit .fits schedule all-taken, fit .room) in
+            subst (λ (s : Site). length (report table s) ≤ length buffer) (sym (E .site)) small;
+      }
+
+  -- no report's length passes 2,912
+  pub report-small : length (report table (siteOf (r .actors) comms log heads tails entries lens)) ≤ 2912
+  report-small =
+      let fit = reports-fit table ok in
+      let small : length (report table (endState table schedule)) ≤ 2912 = omega (arith, fit .fits schedule all-taken, fit .room) in
+      subst (λ (s : Site). length (report table s) ≤ 2912) (sym (E .site)) small
+
+  pub answerable : Answerable table (r .actors) comms entries lens
+  answerable =
+      record {
+        accepted = ok;
+        actors-long = E .actors-long;
+        comms-long = E .mail-room .comms-long;
+        valued = E .mail-room .valued;
+        queue-room = E .queue-room;
+      }

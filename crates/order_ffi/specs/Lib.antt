@@ -1,0 +1,2 @@
+-- What the C structs hold for each outcome of a call.
+pub mod Fields

@@ -1,0 +1,79 @@
+/* The order engine's calls for C. The library is target/staticlib/liborder_ffi.a, for x86-64 Linux.
+ *
+ * A slice is passed as a pointer and a number of elements. A call reads no byte outside the slices
+ * that it is lent, keeps no pointer and has no state. A pointer is never null, also not where the
+ * length is 0.
+ *
+ * In every answer `refusal` is 0 where the call accepted, otherwise the number of the refusal, and
+ * `position` is its position; the other fields are then 0. A call that refuses changes nothing that
+ * it was lent.
+ */
+#ifndef ORDER_H
+#define ORDER_H
+
+#include <stddef.h>
+#include <stdint.h>
+
+#ifdef __cplusplus
+extern "C" {
+#endif
+
+/* Whether a file is a task table. */
+typedef struct {
+    uint32_t refusal;
+    uint32_t position;
+} OrderCheck;
+
+/* Reads `length` bytes at `table`, of any length, as a task table.
+ *
+ *   refusal  position       the first thing that is wrong
+ *   0        0              nothing: the table is accepted
+ *   1        0              the file has under 4 bytes
+ *   2        0              the edition is not 1
+ *   3        0              the number of actors, mailboxes or mutexes is out of its range
+ *   4        0              the directory is cut short, or an entry has a wrong offset or over 32 actions
+ *   5        0              the file does not end with the last actor's last action
+ *   6        action offset  the kind is over 10
+ *   7        action offset  a cell, mailbox, mutex, list length or listed mutex is out of range
+ *   8        action offset  a listed action is not a lower Send or Receive of its actor
+ *   9        action offset  a byte without a use is not 0
+ */
+OrderCheck order_check(const uint8_t *table, size_t length);
+
+/* What a run answers: the length of the report that was written. */
+typedef struct {
+    uint32_t refusal;
+    uint32_t position;
+    uint32_t length;
+} OrderRun;
+
+/* Runs a schedule, one byte for each entry, from a fresh site and writes the state report of its end into
+ * the first bytes of `report`; the bytes after it stay as they were.
+ *
+ *   refusal  position       what is wrong, in this order
+ *   10       0              the report buffer has under 2,912 bytes
+ *   1 to 9   as above       the table is refused
+ *   11       entry's index  the entry names no actor
+ *   12       entry's index  the entry's actor is finished
+ *   13       entry's index  the entry's actor is not ready
+ */
+OrderRun order_run(const uint8_t *table, size_t table_length, const uint8_t *schedule, size_t schedule_length,
+                   uint8_t *report, size_t report_length);
+
+/* The ready answer: bit i of `mask` is actor i's, `count` is how many are ready; `ending` is 0 finished, 1 stuck, 2 going. */
+typedef struct {
+    uint32_t refusal;
+    uint32_t position;
+    uint32_t mask;
+    uint32_t count;
+    uint32_t ending;
+} OrderReady;
+
+/* Which actors are ready at the end of a schedule from a fresh site. Refusals 1 to 9, then 11 to 13, as for order_run. */
+OrderReady order_ready(const uint8_t *table, size_t table_length, const uint8_t *schedule, size_t schedule_length);
+
+#ifdef __cplusplus
+}
+#endif
+
+#endif
