@@ -1,46 +1,16 @@
 //! The two table readers compared.
 
 use crate::damage;
+use crate::difference::{Difference, number, of_engine, of_reference};
 use crate::families::FAMILIES;
 use crate::rng::Rng;
 use crate::sample::{Sample, Shape, TABLE_A};
-use crate::tally::Tally;
-use std::fmt;
+use crate::tally::{Demands, Tally};
 
 /// The fewest tables, accepted tables, and tables for each refusal that a comparison must meet.
 const LEAST_TABLES: u64 = 300_000;
 const LEAST_ACCEPTED: u64 = 10_000;
 const LEAST_REFUSED: u64 = 1_000;
-
-/// An answer: number and position of the refusal, 0 and 0 where accepted.
-type Answer = (u32, u32);
-
-/// A table on which the readers differ.
-#[derive(Debug)]
-pub struct Difference {
-    table: Vec<u8>,
-    engine: Answer,
-    reference: Answer,
-}
-
-impl fmt::Display for Difference {
-    fn fmt(&self, f: &mut fmt::Formatter<'_>) -> fmt::Result {
-        write!(f, "table of {} bytes:", self.table.len())?;
-        for byte in &self.table {
-            write!(f, " {byte:02x}")?;
-        }
-        writeln!(f)?;
-        writeln!(f, "engine:    {}", words(self.engine))?;
-        write!(f, "reference: {}", words(self.reference))
-    }
-}
-
-fn words((number, position): Answer) -> String {
-    match number {
-        0 => "accepted".to_string(),
-        _ => format!("refused {number} at {position}"),
-    }
-}
 
 /// Compares the readers on many tables: every byte and every length of some, then `cases` random
 /// ones.
@@ -60,22 +30,11 @@ pub fn compare(seed: u64, cases: usize) -> Result<Tally, Box<Difference>> {
 
 /// What a comparison should have met and did not, in words; empty where it met everything.
 pub fn shortfalls(tally: &Tally) -> Vec<String> {
-    let mut short = Vec::new();
-    let mut demand = |what: String, hits: u64, least: u64| {
-        if hits < least {
-            short.push(format!("{what}: {hits}, fewer than {least}"));
-        }
-    };
-    demand("tables".to_string(), tally.total(), LEAST_TABLES);
-    demand("accepted".to_string(), tally.hits(0), LEAST_ACCEPTED);
-    for number in damage::AIMS {
-        demand(
-            format!("refused {number}"),
-            tally.hits(number),
-            LEAST_REFUSED,
-        );
-    }
-    short
+    Demands::of(tally)
+        .total("tables", LEAST_TABLES)
+        .accepted(LEAST_ACCEPTED)
+        .refused(damage::AIMS, LEAST_REFUSED)
+        .short()
 }
 
 struct Run {
@@ -86,22 +45,13 @@ struct Run {
 impl Run {
     /// Both readers on one table.
     fn table(&mut self, table: &[u8]) -> Result<(), Box<Difference>> {
-        let engine = match order_engine::check(table) {
-            Ok(()) => (0, 0),
-            Err(refusal) => (refusal.number(), refusal.position()),
-        };
-        let reference = match reference::validate(table) {
-            Ok(()) => (0, 0),
-            Err(refusal) => (refusal.number(), refusal.position),
-        };
+        let engine = of_engine(order_engine::check(table));
+        let reference = of_reference(reference::validate(table));
         if engine != reference {
-            return Err(Box::new(Difference {
-                table: table.to_vec(),
-                engine,
-                reference,
-            }));
+            let difference = Difference::on(table).answers(&engine, &reference);
+            return Err(Box::new(difference));
         }
-        self.tally.count(reference.0);
+        self.tally.count(number(&reference));
         Ok(())
     }
 

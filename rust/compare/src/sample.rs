@@ -1,5 +1,6 @@
 //! Tables made to measure: first a shape, then actions that suit it.
 
+use crate::mix::Mix;
 use crate::rng::Rng;
 use reference::kind;
 
@@ -105,25 +106,35 @@ pub struct Sample {
 }
 
 impl Sample {
-    /// A table of `shape` whose every action is right.
+    /// A table of `shape` whose every action is right, all kinds equally often.
     pub fn new(rng: &mut Rng, shape: Shape) -> Self {
-        let actors = shape.counts.len();
+        Self::mixed(rng, shape, &Mix::EVEN)
+    }
+
+    /// A table of `shape` whose every action is right, with kinds as `mix` has them.
+    pub fn mixed(rng: &mut Rng, shape: Shape, mix: &Mix) -> Self {
+        let mut scripts = vec![Script::default(); shape.counts.len()];
+        for (script, &count) in scripts.iter_mut().zip(&shape.counts) {
+            for _ in 0..count {
+                script.push(script.draw(rng, &shape, mix));
+            }
+        }
+        Self::of_scripts(shape, &scripts)
+    }
+
+    /// The table of these actors' actions.
+    pub fn of_scripts(shape: Shape, scripts: &[Script]) -> Self {
+        let actors = scripts.len();
         let mut bytes = vec![1, actors as u8, shape.mailboxes, shape.mutexes];
         let mut end = 4 + 4 * actors;
-        for &count in &shape.counts {
+        for script in scripts {
+            let count = script.actions.len();
             bytes.extend((end as u16).to_le_bytes());
             bytes.extend((count as u16).to_le_bytes());
             end += 8 * count;
         }
-        for &count in &shape.counts {
-            let mut posts = Vec::new();
-            for index in 0..count {
-                let action = action(rng, &shape, &posts);
-                if action[0] == kind::SEND || action[0] == kind::RECEIVE {
-                    posts.push(index as u8);
-                }
-                bytes.extend(action);
-            }
+        for script in scripts {
+            bytes.extend(script.actions.as_flattened());
         }
         Self { shape, bytes }
     }
@@ -152,35 +163,61 @@ impl Sample {
     }
 }
 
-/// An action of any kind that `shape` and the actor's `posts` so far allow.
-fn action(rng: &mut Rng, shape: &Shape, posts: &[u8]) -> [u8; 8] {
-    let code = loop {
-        let code = rng.below(usize::from(kind::COUNT)) as u8;
-        let possible = match code {
-            kind::SEND | kind::RECEIVE => shape.mailboxes > 0,
-            kind::TEST_ANY | kind::WAIT_ANY => !posts.is_empty(),
-            kind::LOCK | kind::UNLOCK | kind::MUTEX_TEST | kind::MUTEX_WAIT => shape.mutexes > 0,
-            _ => true,
-        };
-        if possible {
-            break code;
-        }
-    };
-    let mut action = [code, cell(rng), 0, 0, 0, 0, 0, 0];
-    match code {
-        kind::SET => action[4..].fill_with(|| rng.byte()),
-        kind::ADD | kind::LESSER => action[2] = cell(rng),
-        kind::SEND | kind::RECEIVE => {
-            action[1] = rng.below(usize::from(shape.mailboxes)) as u8;
-            action[2] = cell(rng);
-        }
-        kind::TEST_ANY | kind::WAIT_ANY => list(rng, &mut action, |rng| rng.pick(posts)),
-        kind::LOCK | kind::UNLOCK => action[1] = rng.below(usize::from(shape.mutexes)) as u8,
-        _ => list(rng, &mut action, |rng| {
-            rng.below(usize::from(shape.mutexes)) as u8
-        }),
+/// An actor's actions, and which of them a list may name.
+#[derive(Clone, Debug, Default)]
+pub struct Script {
+    actions: Vec<[u8; 8]>,
+    posts: Vec<u8>,
+}
+
+impl Script {
+    /// The actions so far.
+    pub fn actions(&self) -> &[[u8; 8]] {
+        &self.actions
     }
-    action
+
+    /// Appends an action.
+    pub fn push(&mut self, action: [u8; 8]) {
+        if action[0] == kind::SEND || action[0] == kind::RECEIVE {
+            self.posts.push(self.actions.len() as u8);
+        }
+        self.actions.push(action);
+    }
+
+    /// An action that may come next, of a kind that `mix` draws among those possible.
+    pub fn draw(&self, rng: &mut Rng, shape: &Shape, mix: &Mix) -> [u8; 8] {
+        let code = loop {
+            let code = mix.kind(rng);
+            let possible = match code {
+                kind::SEND | kind::RECEIVE => shape.mailboxes > 0,
+                kind::TEST_ANY | kind::WAIT_ANY => !self.posts.is_empty(),
+                kind::LOCK | kind::UNLOCK | kind::MUTEX_TEST | kind::MUTEX_WAIT => {
+                    shape.mutexes > 0
+                }
+                _ => true,
+            };
+            if possible {
+                break code;
+            }
+        };
+        let mut action = [code, cell(rng), 0, 0, 0, 0, 0, 0];
+        match code {
+            kind::SET => action[4..].fill_with(|| rng.byte()),
+            kind::ADD | kind::LESSER => action[2] = cell(rng),
+            kind::SEND | kind::RECEIVE => {
+                action[1] = rng.below(usize::from(shape.mailboxes)) as u8;
+                action[2] = cell(rng);
+            }
+            kind::TEST_ANY | kind::WAIT_ANY => {
+                list(rng, &mut action, |rng| rng.pick(&self.posts));
+            }
+            kind::LOCK | kind::UNLOCK => action[1] = rng.below(usize::from(shape.mutexes)) as u8,
+            _ => list(rng, &mut action, |rng| {
+                rng.below(usize::from(shape.mutexes)) as u8
+            }),
+        }
+        action
+    }
 }
 
 /// A cell's number.

@@ -14,6 +14,16 @@ impl List {
     pub fn numbers(&self) -> &[u8] {
         &self.numbers[..usize::from(self.length)]
     }
+
+    /// The first place, from 1, whose number fits, or 0.
+    pub fn place(&self, mut fits: impl FnMut(u8) -> bool) -> usize {
+        for (index, &number) in self.numbers().iter().enumerate() {
+            if fits(number) {
+                return index + 1;
+            }
+        }
+        0
+    }
 }
 
 /// An action of an accepted table. Cells, mailboxes, mutexes and listed numbers exist.
@@ -45,8 +55,9 @@ pub enum Action {
 }
 
 impl Action {
-    /// The action that eight bytes of an accepted table give.
-    pub(crate) fn decode(bytes: [u8; 8]) -> Self {
+    /// The action that eight bytes of an accepted table give. Panics where the kind is over 10.
+    #[inline(always)]
+    pub fn decode(bytes: [u8; 8]) -> Self {
         let [code, p, q, z, numbers @ ..] = bytes;
         let list = List { length: z, numbers };
         match code {

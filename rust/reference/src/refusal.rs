@@ -22,6 +22,26 @@ pub enum Reason {
     Listed = 8,
     /// A byte without a use is not 0.
     Unused = 9,
+    /// The report buffer has under 2,912 bytes.
+    ReportRoom = 10,
+    /// An entry of the (first) schedule names no actor.
+    NoActor = 11,
+    /// An entry of the (first) schedule names a finished actor.
+    Finished = 12,
+    /// An entry of the (first) schedule names an actor that is not ready.
+    NotReady = 13,
+    /// An entry of the second schedule names no actor.
+    SecondNoActor = 14,
+    /// An entry of the second schedule names a finished actor.
+    SecondFinished = 15,
+    /// An entry of the second schedule names an actor that is not ready.
+    SecondNotReady = 16,
+    /// A step's name is not in the table.
+    NoStep = 17,
+    /// The route buffer has under m·(m − 1)/2 entries, m being the schedules' length.
+    RouteRoom = 18,
+    /// The schedules are different, so that there is no route.
+    Different = 19,
 }
 
 /// A refusal: its reason and the position it arose at.
@@ -29,7 +49,8 @@ pub enum Reason {
 pub struct Refusal {
     /// Why.
     pub reason: Reason,
-    /// Where: the action's offset for [`Reason::Kind`] to [`Reason::Unused`], otherwise 0.
+    /// Where: the action's offset for [`Reason::Kind`] to [`Reason::Unused`], the entry's index for
+    /// [`Reason::NoActor`] to [`Reason::SecondNotReady`], otherwise 0.
     pub position: u32,
 }
 

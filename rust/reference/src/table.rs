@@ -41,10 +41,22 @@ impl<'a> Table<'a> {
 
     /// Action `index` of `actor`. Panics where there is none.
     pub fn action(&self, actor: usize, index: usize) -> Action {
+        Action::decode(self.script(actor)[index])
+    }
+
+    /// Each actor's actions, as bytes; none for an actor that there is not.
+    pub(crate) fn scripts(&self) -> [&'a [[u8; 8]]; 8] {
+        std::array::from_fn(|actor| match actor < self.actors() {
+            true => self.script(actor),
+            false => &[],
+        })
+    }
+
+    /// The actions of `actor`, as bytes. Panics where there is no such actor.
+    pub(crate) fn script(&self, actor: usize) -> &'a [[u8; 8]] {
         let (offset, count) = self.entry(actor);
-        assert!(index < count, "actor {actor} has no action {index}");
         let (own, _) = self.bytes[offset..].as_chunks::<8>();
-        Action::decode(own[index])
+        &own[..count]
     }
 
     /// The directory's entry for `actor`: offset and number of actions.

@@ -1,0 +1,63 @@
+//! The proved run and ready answer, called from Rust: document 01's cases (a) to (f).
+
+use order_engine::{Ending, REPORT_ROOM, Ready, Refusal, ready, run};
+
+/// Document 01's table A.
+const A: [u8; 44] = [
+    1, 2, 1, 0, //
+    12, 0, 2, 0, 28, 0, 2, 0, //
+    0, 0, 0, 0, 0x95, 0, 0, 0, //
+    3, 0, 0, 0, 0, 0, 0, 0, //
+    4, 0, 2, 0, 0, 0, 0, 0, //
+    6, 3, 0, 1, 0, 0, 0, 0,
+];
+
+fn numbers<T: std::fmt::Debug>(answer: Result<T, Refusal>) -> (u32, u32) {
+    let refusal = answer.unwrap_err();
+    (refusal.number(), refusal.position())
+}
+
+/// The refusal of a run and of the ready answer, which write nothing.
+fn refused(schedule: &[u8]) -> (u32, u32) {
+    let mut report = [7; REPORT_ROOM];
+    let refusal = numbers(run(&A, schedule, &mut report));
+    assert_eq!(report, [7; REPORT_ROOM]);
+    assert_eq!(numbers(ready(&A, schedule)), refusal);
+    refusal
+}
+
+#[test]
+fn case_a() {
+    let mut report = [7; REPORT_ROOM + 1];
+    assert_eq!(run(&A, &[0, 1, 0, 1], &mut report), Ok(100));
+    assert_eq!(report[33], 2);
+    // Actor 1's cells 2 and 3.
+    assert_eq!(report[42..50], [149, 0, 0, 0, 1, 0, 0, 0]);
+    assert!(report[100..].iter().all(|&byte| byte == 7));
+}
+
+#[test]
+fn cases_b_to_d() {
+    assert_eq!(refused(&[1, 1]), (13, 1));
+    assert_eq!(refused(&[0, 0, 0]), (12, 2));
+    assert_eq!(refused(&[2]), (11, 0));
+}
+
+#[test]
+fn cases_e_and_f() {
+    let going = |mask, count| Ready {
+        mask,
+        count,
+        ending: Ending::Going,
+    };
+    assert_eq!(ready(&A, &[]), Ok(going(3, 2)));
+    assert_eq!(ready(&A, &[1]), Ok(going(1, 1)));
+    let finished = ready(&A, &[0, 1, 0, 1]).unwrap();
+    assert_eq!(finished.ending, Ending::Finished);
+}
+
+#[test]
+fn a_short_buffer() {
+    assert_eq!(numbers(run(&A, &[], &mut [0; REPORT_ROOM - 1])), (10, 0));
+    assert_eq!(numbers(run(&[], &[9], &mut [])), (10, 0));
+}
