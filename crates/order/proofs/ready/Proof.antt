@@ -1,39 +1,27 @@
 -- `order::ready` meets its contract: its checks are the reader's and the schedule's, and the answer is that of the end state.
 -- Assumes nothing.
-use mathlib.Core.Path.{_≡_, refl, _∙_, ap, sym}
-use native.Mathlib.Omega.{arith}
-use Prim.Native.Nat.{ℕ}
-use Rattle.table.specs.Outcome.{Outcome, accepted, refused, numberOf, positionOf}
+use mathlib.Core.Path.{refl, _∙_, ap, sym}
+use Rattle.table.specs.Outcome.{accepted}
 use Rattle.table.specs.Read.{readOf}
 use Rattle.table.specs.Answer.{outcome}
-use Rattle.table.proofs.Readings.{accepts, refusing}
+use Rattle.table.proofs.Readings.{refusing}
 use Rattle.model.specs.Schedule.{firstNumbers, checkSchedule}
-use Rattle.model.specs.Calls.{runOf}
 use Rattle.engine.specs.PlayParts.{haltOf}
-use Rattle.engine.specs.State.{siteOf}
 use Rattle.order.proofs.Outcomes.{then-refused, then-accepted, ready-refused, ready-given, answerable}
 use borrow.Author.Needs.{needs}
 use Rattle.order.proofs.ready.Statement.{statement}
 use Rattle.order.proofs.ready.Tie as tie
-use Rattle.order.proofs.ready.Reads as reads
-use Rattle.order.proofs.ready.Lts as lts
-use Rattle.engine.proofs.play.play.Reads as play-reads
-use Rattle.engine.proofs.ready.answer.Reads as answer-reads
-use Rattle.table.proofs.read.Reads as read-reads
 
--- src/lib.rt:88:9
 read-requires : tie.Need-read-requires
 read-requires c κs = search needs
 
 enum-told : tie.Need-enum-told
 enum-told c = search needs
 
--- src/lib.rt:90:9
 returns : tie.Need-returns
 returns c =
     ready-refused (c .before .before .before .before .args .table .now) (c .before .before .before .before .args .schedule .now) _ _ (then-refused (readOf (c .before .before .before .before .args .table .now)) (checkSchedule firstNumbers (c .before .before .before .before .args .table .now) (c .before .before .before .before .args .schedule .now)) _ _ (sym (c .before .read .ensures .0) ∙ refusing (c .before .read .result) (c .match .keys2)))
 
--- src/lib.rt:99:9
 play-requires : tie.Need-play-requires
 play-requires c κs =
     record {
@@ -47,44 +35,35 @@ play-requires c κs =
       names-long = refl;
     }
 
--- src/lib.rt:113:17
 enum-told-2 : tie.Need-enum-told-2
 enum-told-2 c = search needs
 
--- src/lib.rt:114:30
 answer-requires : tie.Need-answer-requires
 answer-requires c κs =
     answerable (c .before .before .before .before .before .before .before .before .before .before .before .before .before .before .before .before .read .ensures .1 (c .before .before .before .before .before .before .before .before .before .before .before .before .before .before .enum-told .given .1)) (sym (c .before .before .before .before .before .before .play .ensures .halted firstNumbers) ∙ ap (haltOf firstNumbers) (c .before .before .before .before .enum-told2 .given .1)) (c .before .before .before .before .before .before .play .ensures .ended (c .before .before .before .before .enum-told2 .given .1))
 
--- src/lib.rt:116:22
 enum-known-halt : tie.Need-enum-known-halt
 enum-known-halt c = search needs
 
--- src/lib.rt:117:24
 enum-known-halt-2 : tie.Need-enum-known-halt-2
 enum-known-halt-2 c = search needs
 
--- src/lib.rt:118:23
 enum-known-halt-3 : tie.Need-enum-known-halt-3
 enum-known-halt-3 c = search needs
 
--- src/lib.rt:85:1
 returns-2 : tie.Need-returns-2
 returns-2 c =
     ready-given (c .before .before .before .before .before .before .before .before .before .before .before .before .before .before .before .before .before .before .before .before .args .table .now) (c .before .before .before .before .before .before .before .before .before .before .before .before .before .before .before .before .before .before .before .before .args .schedule .now) _ _ ((c .before .before .before .before .before .before .before .play .ensures .ended (c .before .before .before .before .before .enum-told2 .given .1)) .site) (then-accepted (readOf (c .before .before .before .before .before .before .before .before .before .before .before .before .before .before .before .before .before .before .before .before .args .table .now)) (checkSchedule firstNumbers (c .before .before .before .before .before .before .before .before .before .before .before .before .before .before .before .before .before .before .before .before .args .table .now) (c .before .before .before .before .before .before .before .before .before .before .before .before .before .before .before .before .before .before .before .before .args .schedule .now)) (sym (c .before .before .before .before .before .before .before .before .before .before .before .before .before .before .before .before .before .read .ensures .0) ∙ ap outcome (c .before .before .before .before .before .before .before .before .before .before .before .before .before .before .before .enum-told .given .1)) ∙ (sym (c .before .before .before .before .before .before .before .play .ensures .halted firstNumbers) ∙ ap (haltOf firstNumbers) (c .before .before .before .before .before .enum-told2 .given .1)))
     (c .answer .ensures (c .before .before .before .before .before .before .before .play .last .1 .1 .1 .0) (c .before .before .before .before .before .before .before .play .last .1 .1 .1 .1 .0) (c .before .before .before .before .before .before .before .play .last .1 .1 .1 .1 .1 .0))
 
--- src/lib.rt:85:1
 returns-3 : tie.Need-returns-3
 returns-3 c =
     ready-refused (c .before .before .before .before .before .before .before .before .before .before .before .before .before .before .before .before .args .table .now) (c .before .before .before .before .before .before .before .before .before .before .before .before .before .before .before .before .args .schedule .now) _ _ (then-accepted (readOf (c .before .before .before .before .before .before .before .before .before .before .before .before .before .before .before .before .args .table .now)) (checkSchedule firstNumbers (c .before .before .before .before .before .before .before .before .before .before .before .before .before .before .before .before .args .table .now) (c .before .before .before .before .before .before .before .before .before .before .before .before .before .before .before .before .args .schedule .now)) (sym (c .before .before .before .before .before .before .before .before .before .before .before .before .before .read .ensures .0) ∙ ap outcome (c .before .before .before .before .before .before .before .before .before .before .before .enum-told .given .1)) ∙ (sym (c .before .before .before .play .ensures .halted firstNumbers) ∙ ap (haltOf firstNumbers) (c .before .halt .given .1)))
 
--- src/lib.rt:85:1
 returns-4 : tie.Need-returns-4
 returns-4 c =
     ready-refused (c .before .before .before .before .before .before .before .before .before .before .before .before .before .before .before .before .args .table .now) (c .before .before .before .before .before .before .before .before .before .before .before .before .before .before .before .before .args .schedule .now) _ _ (then-accepted (readOf (c .before .before .before .before .before .before .before .before .before .before .before .before .before .before .before .before .args .table .now)) (checkSchedule firstNumbers (c .before .before .before .before .before .before .before .before .before .before .before .before .before .before .before .before .args .table .now) (c .before .before .before .before .before .before .before .before .before .before .before .before .before .before .before .before .args .schedule .now)) (sym (c .before .before .before .before .before .before .before .before .before .before .before .before .before .read .ensures .0) ∙ ap outcome (c .before .before .before .before .before .before .before .before .before .before .before .enum-told .given .1)) ∙ (sym (c .before .before .before .play .ensures .halted firstNumbers) ∙ ap (haltOf firstNumbers) (c .before .halt2 .given .1)))
 
--- src/lib.rt:85:1
 returns-5 : tie.Need-returns-5
 returns-5 c =
     ready-refused (c .before .before .before .before .before .before .before .before .before .before .before .before .before .before .before .before .args .table .now) (c .before .before .before .before .before .before .before .before .before .before .before .before .before .before .before .before .args .schedule .now) _ _ (then-accepted (readOf (c .before .before .before .before .before .before .before .before .before .before .before .before .before .before .before .before .args .table .now)) (checkSchedule firstNumbers (c .before .before .before .before .before .before .before .before .before .before .before .before .before .before .before .before .args .table .now) (c .before .before .before .before .before .before .before .before .before .before .before .before .before .before .before .before .args .schedule .now)) (sym (c .before .before .before .before .before .before .before .before .before .before .before .before .before .read .ensures .0) ∙ ap outcome (c .before .before .before .before .before .before .before .before .before .before .before .enum-told .given .1)) ∙ (sym (c .before .before .before .play .ensures .halted firstNumbers) ∙ ap (haltOf firstNumbers) (c .before .halt3 .given .1)))

@@ -1,44 +1,32 @@
 -- `order::run` meets its contract: 10, then the reader's checks, then the schedule's decide, and only an accepted run writes.
 -- Assumes nothing.
-use mathlib.Core.Path.{_≡_, refl, _∙_, ap, sym}
+use mathlib.Core.Path.{refl, _∙_, ap, sym}
 use native.Mathlib.Omega.{arith}
-use Prim.Native.Nat.{ℕ}
-use Rattle.table.specs.Outcome.{Outcome, accepted, refused, numberOf, positionOf}
+use Rattle.table.specs.Outcome.{accepted}
 use Rattle.table.specs.Read.{readOf}
 use Rattle.table.specs.Answer.{outcome}
-use Rattle.table.proofs.Readings.{accepts, refusing}
+use Rattle.table.proofs.Readings.{refusing}
 use Rattle.model.specs.Schedule.{firstNumbers, checkSchedule}
-use Rattle.model.specs.Calls.{runOf}
 use Rattle.engine.specs.PlayParts.{haltOf}
-use Rattle.engine.specs.State.{siteOf}
 use Rattle.order.proofs.Outcomes.{then-refused, then-accepted, run-refused, run-given, small-checks, run-checks, reportable, report-small}
 use borrow.Author.Needs.{needs}
 use Rattle.order.proofs.run.Statement.{statement}
 use Rattle.order.proofs.run.Tie as tie
-use Rattle.order.proofs.run.Reads as reads
-use Rattle.order.proofs.run.Lts as lts
-use Rattle.engine.proofs.play.play.Reads as play-reads
-use Rattle.engine.proofs.report.write.Reads as write-reads
-use Rattle.table.proofs.read.Reads as read-reads
 
--- src/lib.rt:28:9
 returns : tie.Need-returns
 returns c =
     run-refused (c .before .before .before .before .args .table .now) (c .before .before .before .before .args .schedule .now) (c .before .before .before .before .args .report .now) 10 0 (small-checks (c .before .before .before .before .args .table .now) (c .before .before .before .before .args .schedule .now) (c .before .before .before .before .args .report .now) (c .if1 .taken))
 
--- src/lib.rt:30:9
 read-requires : tie.Need-read-requires
 read-requires c κs = search needs
 
 enum-told : tie.Need-enum-told
 enum-told c = search needs
 
--- src/lib.rt:32:9
 returns-2 : tie.Need-returns-2
 returns-2 c =
     run-refused (c .before .before .before .before .before .before .args .table .now) (c .before .before .before .before .before .before .args .schedule .now) (c .before .before .before .before .before .before .args .report .now) _ _ (run-checks (c .before .before .before .before .before .before .args .table .now) (c .before .before .before .before .before .before .args .schedule .now) (c .before .before .before .before .before .before .args .report .now) (c .before .before .if1 .left) ∙ then-refused (readOf (c .before .before .before .before .before .before .args .table .now)) (checkSchedule firstNumbers (c .before .before .before .before .before .before .args .table .now) (c .before .before .before .before .before .before .args .schedule .now)) _ _ (sym (c .before .read .ensures .0) ∙ refusing (c .before .read .result) (c .match .keys2)))
 
--- src/lib.rt:41:9
 play-requires : tie.Need-play-requires
 play-requires c κs =
     record {
@@ -52,53 +40,42 @@ play-requires c κs =
       names-long = refl;
     }
 
--- src/lib.rt:55:17
 enum-told-2 : tie.Need-enum-told-2
 enum-told-2 c = search needs
 
--- src/lib.rt:56:17
 write-requires : tie.Need-write-requires
 write-requires c κs =
     reportable (c .before .before .before .before .before .before .before .before .before .before .before .before .before .before .before .before .before .before .before .before .read .ensures .1 (c .before .before .before .before .before .before .before .before .before .before .before .before .before .before .before .before .before .before .enum-told .given .1)) (sym (c .before .before .before .before .before .before .before .before .before .before .play .ensures .halted firstNumbers) ∙ ap (haltOf firstNumbers) (c .before .before .before .before .before .before .before .before .enum-told2 .given .1)) (c .before .before .before .before .before .before .before .before .before .before .play .ensures .ended (c .before .before .before .before .before .before .before .before .enum-told2 .given .1)) (c .before .before .before .before .before .before .before .before .before .before .before .before .before .before .before .before .before .before .before .before .before .before .before .before .before .args .report .now) (c .before .before .before .before .before .before .before .before .before .before .before .before .before .before .before .before .before .before .before .before .before .if1 .left)
 
--- src/lib.rt:67:32
 cast-t37 : tie.Need-cast-t37
 cast-t37 c =
     omega (arith, c .before .before .write .ensures .0, report-small (c .before .before .before .before .before .before .before .before .before .before .before .before .before .before .before .before .before .before .before .before .before .before .before .read .ensures .1 (c .before .before .before .before .before .before .before .before .before .before .before .before .before .before .before .before .before .before .before .before .before .enum-told .given .1)) (sym (c .before .before .before .before .before .before .before .before .before .before .before .before .before .play .ensures .halted firstNumbers) ∙ ap (haltOf firstNumbers) (c .before .before .before .before .before .before .before .before .before .before .before .enum-told2 .given .1)) (c .before .before .before .before .before .before .before .before .before .before .before .before .before .play .ensures .ended (c .before .before .before .before .before .before .before .before .before .before .before .enum-told2 .given .1)))
 
--- src/lib.rt:69:22
 enum-known-halt : tie.Need-enum-known-halt
 enum-known-halt c = search needs
 
--- src/lib.rt:70:24
 enum-known-halt-2 : tie.Need-enum-known-halt-2
 enum-known-halt-2 c = search needs
 
--- src/lib.rt:71:23
 enum-known-halt-3 : tie.Need-enum-known-halt-3
 enum-known-halt-3 c = search needs
 
--- src/lib.rt:23:1
 same-length : tie.Need-same-length
 same-length c = search needs
 
--- src/lib.rt:23:1
 returns-3 : tie.Need-returns-3
 returns-3 c =
     run-given (c .before .before .before .before .before .before .before .before .before .before .before .before .before .before .before .before .before .before .before .before .before .before .before .before .before .before .before .before .args .table .now) (c .before .before .before .before .before .before .before .before .before .before .before .before .before .before .before .before .before .before .before .before .before .before .before .before .before .before .before .before .args .schedule .now) (c .before .before .before .before .before .before .before .before .before .before .before .before .before .before .before .before .before .before .before .before .before .before .before .before .before .before .before .before .args .report .now) _ _ _ ((c .before .before .before .before .before .before .before .before .before .before .before .before .before .play .ensures .ended (c .before .before .before .before .before .before .before .before .before .before .before .enum-told2 .given .1)) .site) (run-checks (c .before .before .before .before .before .before .before .before .before .before .before .before .before .before .before .before .before .before .before .before .before .before .before .before .before .before .before .before .args .table .now) (c .before .before .before .before .before .before .before .before .before .before .before .before .before .before .before .before .before .before .before .before .before .before .before .before .before .before .before .before .args .schedule .now) (c .before .before .before .before .before .before .before .before .before .before .before .before .before .before .before .before .before .before .before .before .before .before .before .before .before .before .before .before .args .report .now) (c .before .before .before .before .before .before .before .before .before .before .before .before .before .before .before .before .before .before .before .before .before .before .before .before .if1 .left) ∙ (then-accepted (readOf (c .before .before .before .before .before .before .before .before .before .before .before .before .before .before .before .before .before .before .before .before .before .before .before .before .before .before .before .before .args .table .now)) (checkSchedule firstNumbers (c .before .before .before .before .before .before .before .before .before .before .before .before .before .before .before .before .before .before .before .before .before .before .before .before .before .before .before .before .args .table .now) (c .before .before .before .before .before .before .before .before .before .before .before .before .before .before .before .before .before .before .before .before .before .before .before .before .before .before .before .before .args .schedule .now)) (sym (c .before .before .before .before .before .before .before .before .before .before .before .before .before .before .before .before .before .before .before .before .before .before .before .read .ensures .0) ∙ ap outcome (c .before .before .before .before .before .before .before .before .before .before .before .before .before .before .before .before .before .before .before .before .before .enum-told .given .1)) ∙ (sym (c .before .before .before .before .before .before .before .before .before .before .before .before .before .play .ensures .halted firstNumbers) ∙ ap (haltOf firstNumbers) (c .before .before .before .before .before .before .before .before .before .before .before .enum-told2 .given .1)))) (c .before .before .write .ensures .0)
     (c .before .before .write .ensures .1)
 
--- src/lib.rt:23:1
 returns-4 : tie.Need-returns-4
 returns-4 c =
     run-refused (c .before .before .before .before .before .before .before .before .before .before .before .before .before .before .before .before .before .before .args .table .now) (c .before .before .before .before .before .before .before .before .before .before .before .before .before .before .before .before .before .before .args .schedule .now) (c .before .before .before .before .before .before .before .before .before .before .before .before .before .before .before .before .before .before .args .report .now) _ _ (run-checks (c .before .before .before .before .before .before .before .before .before .before .before .before .before .before .before .before .before .before .args .table .now) (c .before .before .before .before .before .before .before .before .before .before .before .before .before .before .before .before .before .before .args .schedule .now) (c .before .before .before .before .before .before .before .before .before .before .before .before .before .before .before .before .before .before .args .report .now) (c .before .before .before .before .before .before .before .before .before .before .before .before .before .before .if1 .left) ∙ (then-accepted (readOf (c .before .before .before .before .before .before .before .before .before .before .before .before .before .before .before .before .before .before .args .table .now)) (checkSchedule firstNumbers (c .before .before .before .before .before .before .before .before .before .before .before .before .before .before .before .before .before .before .args .table .now) (c .before .before .before .before .before .before .before .before .before .before .before .before .before .before .before .before .before .before .args .schedule .now)) (sym (c .before .before .before .before .before .before .before .before .before .before .before .before .before .read .ensures .0) ∙ ap outcome (c .before .before .before .before .before .before .before .before .before .before .before .enum-told .given .1)) ∙ (sym (c .before .before .before .play .ensures .halted firstNumbers) ∙ ap (haltOf firstNumbers) (c .before .halt .given .1))))
 
--- src/lib.rt:23:1
 returns-5 : tie.Need-returns-5
 returns-5 c =
     run-refused (c .before .before .before .before .before .before .before .before .before .before .before .before .before .before .before .before .before .before .args .table .now) (c .before .before .before .before .before .before .before .before .before .before .before .before .before .before .before .before .before .before .args .schedule .now) (c .before .before .before .before .before .before .before .before .before .before .before .before .before .before .before .before .before .before .args .report .now) _ _ (run-checks (c .before .before .before .before .before .before .before .before .before .before .before .before .before .before .before .before .before .before .args .table .now) (c .before .before .before .before .before .before .before .before .before .before .before .before .before .before .before .before .before .before .args .schedule .now) (c .before .before .before .before .before .before .before .before .before .before .before .before .before .before .before .before .before .before .args .report .now) (c .before .before .before .before .before .before .before .before .before .before .before .before .before .before .if1 .left) ∙ (then-accepted (readOf (c .before .before .before .before .before .before .before .before .before .before .before .before .before .before .before .before .before .before .args .table .now)) (checkSchedule firstNumbers (c .before .before .before .before .before .before .before .before .before .before .before .before .before .before .before .before .before .before .args .table .now) (c .before .before .before .before .before .before .before .before .before .before .before .before .before .before .before .before .before .before .args .schedule .now)) (sym (c .before .before .before .before .before .before .before .before .before .before .before .before .before .read .ensures .0) ∙ ap outcome (c .before .before .before .before .before .before .before .before .before .before .before .enum-told .given .1)) ∙ (sym (c .before .before .before .play .ensures .halted firstNumbers) ∙ ap (haltOf firstNumbers) (c .before .halt2 .given .1))))
 
--- src/lib.rt:23:1
 returns-6 : tie.Need-returns-6
 returns-6 c =
     run-refused (c .before .before .before .before .before .before .before .before .before .before .before .before .before .before .before .before .before .before .args .table .now) (c .before .before .before .before .before .before .before .before .before .before .before .before .before .before .before .before .before .before .args .schedule .now) (c .before .before .before .before .before .before .before .before .before .before .before .before .before .before .before .before .before .before .args .report .now) _ _ (run-checks (c .before .before .before .before .before .before .before .before .before .before .before .before .before .before .before .before .before .before .args .table .now) (c .before .before .before .before .before .before .before .before .before .before .before .before .before .before .before .before .before .before .args .schedule .now) (c .before .before .before .before .before .before .before .before .before .before .before .before .before .before .before .before .before .before .args .report .now) (c .before .before .before .before .before .before .before .before .before .before .before .before .before .before .if1 .left) ∙ (then-accepted (readOf (c .before .before .before .before .before .before .before .before .before .before .before .before .before .before .before .before .before .before .args .table .now)) (checkSchedule firstNumbers (c .before .before .before .before .before .before .before .before .before .before .before .before .before .before .before .before .before .before .args .table .now) (c .before .before .before .before .before .before .before .before .before .before .before .before .before .before .before .before .before .before .args .schedule .now)) (sym (c .before .before .before .before .before .before .before .before .before .before .before .before .before .read .ensures .0) ∙ ap outcome (c .before .before .before .before .before .before .before .before .before .before .before .enum-told .given .1)) ∙ (sym (c .before .before .before .play .ensures .halted firstNumbers) ∙ ap (haltOf firstNumbers) (c .before .halt3 .given .1))))

@@ -10,92 +10,67 @@ use Rattle.order_ffi.specs.Fields.{readyFields}
 use borrow.Author.Needs.{needs}
 use Rattle.order_ffi.proofs.order_ready.Statement.{statement}
 use Rattle.order_ffi.proofs.order_ready.Tie as tie
-use Rattle.order_ffi.proofs.order_ready.Reads as reads
-use Rattle.order_ffi.proofs.order_ready.Lts as lts
-use Rattle.order.proofs.ready.Reads as ready-reads
-use Rattle.order_ffi.proofs.no_answer.Reads as no-answer-reads
-use Rattle.order_ffi.proofs.readiness.Reads as readiness-reads
-use Rattle.table.proofs.Reading.number.Reads as number-reads
-use Rattle.table.proofs.Reading.position.Reads as position-reads
 
 -- the fields of an answer that is known are those of the call's outcome
 as-fields : {r a : Answered} {o : Result ReadyAnswer} → r ≡ a → readyResult r ≡ o → readyFields (readyResult a) ≡ readyFields o
 as-fields {r} {a} {o} e right = sym (ap (λ (x : Answered). readyFields (readyResult x)) e) ∙ ap readyFields right
 
--- src/lib.rt:96:9
 ready-requires : tie.Need-ready-requires
 ready-requires c κs = search needs
 
--- src/lib.rt:98:26
 enum-known-answer : tie.Need-enum-known-answer
 enum-known-answer c = search needs
 
--- src/lib.rt:98:34
 readiness-requires : tie.Need-readiness-requires
 readiness-requires c κs = search needs
 
--- src/lib.rt:99:28
 enum-known-answer-2 : tie.Need-enum-known-answer-2
 enum-known-answer-2 c = search needs
 
--- src/lib.rt:99:44
 number-requires : tie.Need-number-requires
 number-requires c κs = search needs
 
--- src/lib.rt:99:56
 position-requires : tie.Need-position-requires
 position-requires c κs = search needs
 
--- src/lib.rt:99:34
 no-answer-requires : tie.Need-no-answer-requires
 no-answer-requires c κs = search needs
 
--- src/lib.rt:100:29
 enum-known-answer-3 : tie.Need-enum-known-answer-3
 enum-known-answer-3 c = search needs
 
--- src/lib.rt:100:35
 no-answer-requires-2 : tie.Need-no-answer-requires-2
 no-answer-requires-2 c κs = search needs
 
--- src/lib.rt:101:31
 enum-known-answer-4 : tie.Need-enum-known-answer-4
 enum-known-answer-4 c = search needs
 
--- src/lib.rt:101:37
 no-answer-requires-3 : tie.Need-no-answer-requires-3
 no-answer-requires-3 c κs = search needs
 
--- src/lib.rt:102:30
 enum-known-answer-5 : tie.Need-enum-known-answer-5
 enum-known-answer-5 c = search needs
 
--- src/lib.rt:102:36
 no-answer-requires-4 : tie.Need-no-answer-requires-4
 no-answer-requires-4 c κs = search needs
 
--- src/lib.rt:92:1
 returns : tie.Need-returns
 returns c =
     c .readiness .ensures ∙ as-fields (c .before .before .answer .given .1) (c .before .before .before .before .ready .ensures)
 
--- src/lib.rt:92:1
 returns-2 : tie.Need-returns-2
 returns-2 c =
     c .no-answer .ensures
     ∙ ap₂ (λ (number at : ℕ). readyFields (refuses number at)) (c .before .before .number .ensures) (c .before .position .ensures) ∙ as-fields (c .before .before .before .before .answer2 .given .1) (c .before .before .before .before .before .before .ready .ensures)
 
--- src/lib.rt:92:1
 returns-3 : tie.Need-returns-3
 returns-3 c =
     c .no-answer2 .ensures ∙ as-fields (c .before .before .answer3 .given .1) (c .before .before .before .before .ready .ensures)
 
--- src/lib.rt:92:1
 returns-4 : tie.Need-returns-4
 returns-4 c =
     c .no-answer3 .ensures ∙ as-fields (c .before .before .answer4 .given .1) (c .before .before .before .before .ready .ensures)
 
--- src/lib.rt:92:1
 returns-5 : tie.Need-returns-5
 returns-5 c =
     c .no-answer4 .ensures ∙ as-fields (c .before .before .answer5 .given .1) (c .before .before .before .before .ready .ensures)

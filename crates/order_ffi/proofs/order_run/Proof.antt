@@ -10,11 +10,6 @@ use Rattle.order_ffi.specs.Fields.{runFields}
 use borrow.Author.Needs.{needs}
 use Rattle.order_ffi.proofs.order_run.Statement.{statement}
 use Rattle.order_ffi.proofs.order_run.Tie as tie
-use Rattle.order_ffi.proofs.order_run.Reads as reads
-use Rattle.order_ffi.proofs.order_run.Lts as lts
-use Rattle.order.proofs.run.Reads as run-reads
-use Rattle.table.proofs.Reading.number.Reads as number-reads
-use Rattle.table.proofs.Reading.position.Reads as position-reads
 
 abbrev refusal : ℕ → ℕ → OrderRun
 refusal number at = record { refusal = number; position = at; length = 0 }
@@ -23,65 +18,50 @@ refusal number at = record { refusal = number; position = at; length = 0 }
 as-fields : {r a : RunAnswer} {o : Result ℕ} → r ≡ a → runResult r ≡ o → runFields (runResult a) ≡ runFields o
 as-fields {r} {a} {o} e right = sym (ap (λ (x : RunAnswer). runFields (runResult x)) e) ∙ ap runFields right
 
--- src/lib.rt:46:9
 run-requires : tie.Need-run-requires
 run-requires c κs = search needs
 
--- src/lib.rt:48:28
 enum-known-answer : tie.Need-enum-known-answer
 enum-known-answer c = search needs
 
--- src/lib.rt:53:35
 enum-told : tie.Need-enum-told
 enum-told c = search needs
 
--- src/lib.rt:58:26
 enum-known-answer-2 : tie.Need-enum-known-answer-2
 enum-known-answer-2 c = search needs
 
--- src/lib.rt:59:22
 number-requires : tie.Need-number-requires
 number-requires c κs = search needs
 
--- src/lib.rt:60:23
 position-requires : tie.Need-position-requires
 position-requires c κs = search needs
 
--- src/lib.rt:63:27
 enum-known-answer-3 : tie.Need-enum-known-answer-3
 enum-known-answer-3 c = search needs
 
--- src/lib.rt:68:29
 enum-known-answer-4 : tie.Need-enum-known-answer-4
 enum-known-answer-4 c = search needs
 
--- src/lib.rt:73:28
 enum-known-answer-5 : tie.Need-enum-known-answer-5
 enum-known-answer-5 c = search needs
 
--- src/lib.rt:41:1
 same-length : tie.Need-same-length
 same-length c = search needs
 
--- src/lib.rt:41:1
 returns : tie.Need-returns
 returns c =
     (as-fields (c .before .answer .given .1) (c .before .before .before .before .before .run .ensures .0), c .before .before .before .before .before .run .ensures .1)
 
--- src/lib.rt:41:1
 same-length-2 : tie.Need-same-length-2
 same-length-2 c = search needs
 
--- src/lib.rt:41:1
 returns-2 : tie.Need-returns-2
 returns-2 c =
     (as-fields (c .enum-told .given .1) (c .before .before .before .before .run .ensures .0), c .before .before .before .before .run .ensures .1)
 
--- src/lib.rt:41:1
 same-length-3 : tie.Need-same-length-3
 same-length-3 c = search needs
 
--- src/lib.rt:41:1
 returns-3 : tie.Need-returns-3
 returns-3 c = (
   ap₂ (λ (number at : ℕ). refusal number at) (c .before .number .ensures) (c .position .ensures)
@@ -89,29 +69,23 @@ returns-3 c = (
   c .before .before .before .before .before .before .before .run .ensures .1,
 )
 
--- src/lib.rt:41:1
 same-length-4 : tie.Need-same-length-4
 same-length-4 c = search needs
 
--- src/lib.rt:41:1
 returns-4 : tie.Need-returns-4
 returns-4 c =
     (as-fields (c .before .answer3 .given .1) (c .before .before .before .before .before .run .ensures .0), c .before .before .before .before .before .run .ensures .1)
 
--- src/lib.rt:41:1
 same-length-5 : tie.Need-same-length-5
 same-length-5 c = search needs
 
--- src/lib.rt:41:1
 returns-5 : tie.Need-returns-5
 returns-5 c =
     (as-fields (c .before .answer4 .given .1) (c .before .before .before .before .before .run .ensures .0), c .before .before .before .before .before .run .ensures .1)
 
--- src/lib.rt:41:1
 same-length-6 : tie.Need-same-length-6
 same-length-6 c = search needs
 
--- src/lib.rt:41:1
 returns-6 : tie.Need-returns-6
 returns-6 c =
     (as-fields (c .before .answer5 .given .1) (c .before .before .before .before .before .run .ensures .0), c .before .before .before .before .before .run .ensures .1)

@@ -6,18 +6,13 @@ use Rattle.order_ffi.specs.declared.OrderReady.{OrderReady}
 use borrow.Author.Needs.{needs}
 use Rattle.order_ffi.proofs.readiness.Statement.{statement}
 use Rattle.order_ffi.proofs.readiness.Tie as tie
-use Rattle.order_ffi.proofs.readiness.Reads as reads
-use Rattle.order_ffi.proofs.readiness.Lts as lts
-use Rattle.order_ffi.proofs.number_of.Reads as number-of-reads
 
 abbrev with-ending : ℕ → ℕ → ℕ → OrderReady
 with-ending mask count ending = record { refusal = 0; position = 0; mask = mask; count = count; ending = ending }
 
--- src/lib.rt:115:17
 number-of-requires : tie.Need-number-of-requires
 number-of-requires c κs = search needs
 
--- src/lib.rt:106:1
 returns : tie.Need-returns
 returns c =
     let now = c .before .args .now in

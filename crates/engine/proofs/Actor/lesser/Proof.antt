@@ -5,39 +5,28 @@ use lib.ListN.{set}
 use borrow.Author.Needs.{needs}
 use Rattle.engine.proofs.Actor.lesser.Statement.{statement}
 use Rattle.engine.proofs.Actor.lesser.Tie as tie
-use Rattle.engine.proofs.Actor.lesser.Reads as reads
-use Rattle.engine.proofs.Actor.lesser.Lts as lts
-use Rattle.engine.proofs.local.smaller.Reads as smaller-reads
 
--- src/local.rt:42:17
 mul-x : tie.Need-mul-x
 mul-x c = search needs
 
--- src/local.rt:42:17
 element-copy-out-x : tie.Need-element-copy-out-x
 element-copy-out-x c = search needs
 
--- src/local.rt:43:17
 mul-y : tie.Need-mul-y
 mul-y c = search needs
 
--- src/local.rt:43:17
 element-copy-out-y : tie.Need-element-copy-out-y
 element-copy-out-y c = search needs
 
--- src/local.rt:44:28
 smaller-requires : tie.Need-smaller-requires
 smaller-requires c κs = search needs
 
--- src/local.rt:44:9
 mul-self : tie.Need-mul-self
 mul-self c = search needs
 
--- src/local.rt:44:9
 element-write-self : tie.Need-element-write-self
 element-write-self c = search needs
 
--- src/local.rt:38:5
 returns : tie.Need-returns
 returns c = (refl, ap (set (c .before .before .before .args .t1 .cells) (c .before .before .before .args .cell)) (c .smaller .ensures))
 

@@ -1,9 +1,9 @@
 -- `engine::ready::all_finished` meets its contract. The loop's invariant: the actors from a on are as good as all of them.
 -- Assumes nothing.
-use mathlib.Core.Path.{_≡_, refl, _∙_, ap, sym}
+use mathlib.Core.Path.{_≡_, _∙_, ap, sym}
 use mathlib.Core.Bool.{Bool, not}
 use mathlib.Core.List.{List, []}
-use Prim.Native.Nat.{ℕ, _-_, _<_, _≤_}
+use Prim.Native.Nat.{ℕ, _-_, _≤_}
 use native.Mathlib.Omega.{arith}
 use borrow.Author.Needs.{needs}
 use borrow.Author.Tests.{lt-ltb, le-ltb}
@@ -18,9 +18,6 @@ use Rattle.engine.proofs.PlayStep.{getD-within}
 use Rattle.engine.proofs.ReadyLaws.{all-begin, all-next, all-end}
 use Rattle.engine.proofs.ready.all_finished.Statement.{statement}
 use Rattle.engine.proofs.ready.all_finished.Tie as tie
-use Rattle.engine.proofs.ready.all_finished.Reads as reads
-use Rattle.engine.proofs.ready.all_finished.Lts as lts
-use Rattle.table.proofs.access.actions.Reads as actions-reads
 
 -- an actor's position has come to its number of actions
 abbrev done : List ℕ → List Actor → ℕ → Bool
@@ -32,41 +29,33 @@ Inv-loop table n actors a₀ a = (a ≤ n) × (everyoneFinished table n actors �
 abbrev μ-loop : tie.MeasureT-loop
 μ-loop table n actors a₀ a = n - a
 
--- src/ready.rt:145:5
 loop-holds : tie.Need-loop-holds Inv-loop μ-loop
 loop-holds c =
     (omega arith, all-begin (done (c .before .args .table .now) (c .before .args .t3)) (c .before .args .n))
 
--- src/ready.rt:146:17
 mul-r : tie.Need-mul-r Inv-loop μ-loop
 mul-r c =
     omega (arith, c .before .before .before .pre .0, c .before .before .before .pre .1, c .loop-test .taken)
 
--- src/ready.rt:146:17
 array-copy-out-r : tie.Need-array-copy-out-r Inv-loop μ-loop
 array-copy-out-r c =
     omega (arith, c .before .before .before .pre .0, c .before .before .before .pre .1, c .loop-test .taken)
 
--- src/ready.rt:148:16
 actions-requires : tie.Need-actions-requires Inv-loop μ-loop
 actions-requires c κs = search needs
 
--- src/ready.rt:149:13
 returns : tie.Need-returns Inv-loop μ-loop
 returns c =
     sym
     (c .before .before .before .before .loop .inv .1 ∙ all-next (done (c .before .before .before .before .before .before .args .table .now) (c .before .before .before .before .before .before .args .t3)) (c .before .before .before .before .before .before .args .n) (c .before .before .before .before .loop .a) (c .before .before .before .loop-test .taken)
     ∙ rw (lt-ltb (getD (c .before .before .before .before .before .before .args .t3) (c .before .before .before .before .loop .a) freshActor .position) (countOf (c .before .before .before .before .before .before .args .table .now) (c .before .before .before .before .loop .a)) (omega (arith, (ap (λ (r : Actor). r .position) (getD-within (c .before .before .before .before .before .before .args .t3) (c .before .before .before .before .loop .a) (record { position = 0; cells = [] }) freshActor (omega (arith, c .before .before .before .before .before .before .pre .0, c .before .before .before .before .before .before .pre .1, c .before .before .before .loop-test .taken)))), c .before .actions .ensures, c .if1 .taken))))
 
--- src/ready.rt:151:9
 add-a : tie.Need-add-a Inv-loop μ-loop
 add-a c = search needs
 
--- src/ready.rt:145:5
 loop-less : tie.Need-loop-less Inv-loop μ-loop
 loop-less c = search needs
 
--- src/ready.rt:145:5
 loop-again : tie.Need-loop-again Inv-loop μ-loop
 loop-again c = (
   omega arith,
@@ -74,7 +63,6 @@ loop-again c = (
       ∙ rw (le-ltb (getD (c .before .before .before .before .before .before .args .t3) (c .before .before .before .before .loop .a) freshActor .position) (countOf (c .before .before .before .before .before .before .args .table .now) (c .before .before .before .before .loop .a)) (omega (arith, (ap (λ (r : Actor). r .position) (getD-within (c .before .before .before .before .before .before .args .t3) (c .before .before .before .before .loop .a) (record { position = 0; cells = [] }) freshActor (omega (arith, c .before .before .before .before .before .before .pre .0, c .before .before .before .before .before .before .pre .1, c .before .before .before .loop-test .taken)))), c .before .actions .ensures, c .if1 .left))),
 )
 
--- src/ready.rt:140:1
 returns-2 : tie.Need-returns-2 Inv-loop μ-loop
 returns-2 c =
     sym (c .before .loop .inv .1 ∙ all-end (done (c .before .before .before .args .table .now) (c .before .before .before .args .t3)) (c .before .before .before .args .n) (c .before .loop .a) (c .loop-test .left))

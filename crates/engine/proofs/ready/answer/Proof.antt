@@ -1,6 +1,6 @@
 -- `engine::ready::answer` meets its contract: the mask is the state's, its ones are the actors that are ready, and the tests say the ending.
 -- Assumes nothing.
-use mathlib.Core.Path.{_≡_, refl, _∙_, ap, sym}
+use mathlib.Core.Path.{refl, _∙_, ap, sym}
 use Prim.Native.Nat.{ℕ}
 use native.Mathlib.Omega.{arith}
 use borrow.Author.Tests.{eq-eqb, ne-eqb}
@@ -11,27 +11,18 @@ use Rattle.engine.proofs.ReadyLaws.{answer-right}
 use borrow.Author.Needs.{needs}
 use Rattle.engine.proofs.ready.answer.Statement.{statement}
 use Rattle.engine.proofs.ready.answer.Tie as tie
-use Rattle.engine.proofs.ready.answer.Reads as reads
-use Rattle.engine.proofs.ready.answer.Lts as lts
-use Rattle.engine.proofs.ready.all_finished.Reads as all-finished-reads
-use Rattle.engine.proofs.ready.ready_mask.Reads as ready-mask-reads
-use Rattle.table.proofs.access.actors.Reads as actors-reads
 
--- src/ready.rt:39:9
 actors-requires : tie.Need-actors-requires
 actors-requires c κs = search needs
 
--- src/ready.rt:40:9
 ready-mask-requires : tie.Need-ready-mask-requires
 ready-mask-requires c κs =
     (c .before .before .pre, c .actors .ensures)
 
--- src/ready.rt:42:8
 all-finished-requires : tie.Need-all-finished-requires
 all-finished-requires c κs =
     (omega (arith, c .before .actors .ensures, c .before .before .before .pre .accepted .actors-most), c .before .before .before .pre .actors-long)
 
--- src/ready.rt:43:9
 returns : tie.Need-returns
 returns c =
     λ log heads tails.
@@ -41,7 +32,6 @@ returns c =
     refl
     (rw (sym (c .before .all-finished .ensures ∙ ap (λ (n : ℕ). everyoneFinished (c .before .before .before .before .before .args .table .now) n (c .before .before .before .before .before .args .actors)) (c .before .before .before .actors .ensures)) ∙ c .if1 .taken))
 
--- src/ready.rt:50:9
 returns-2 : tie.Need-returns-2
 returns-2 c =
     λ log heads tails.
@@ -51,7 +41,6 @@ returns-2 c =
     refl
     (rw (sym (c .before .before .all-finished .ensures ∙ ap (λ (n : ℕ). everyoneFinished (c .before .before .before .before .before .before .args .table .now) n (c .before .before .before .before .before .before .args .actors)) (c .before .before .before .before .actors .ensures)) ∙ c .before .if1 .left, eq-eqb _ _ (c .if2 .taken)))
 
--- src/ready.rt:28:1
 returns-3 : tie.Need-returns-3
 returns-3 c =
     λ log heads tails.

@@ -1,6 +1,6 @@
 -- `engine::ready::ready_mask` meets its contract. The loop's invariant: m has the bits of the actors from a on.
 -- Assumes nothing.
-use mathlib.Core.Path.{_≡_, refl, _∙_, ap, ap₂, sym}
+use mathlib.Core.Path.{_≡_, _∙_, ap, ap₂, sym}
 use mathlib.Core.List.{List, []}
 use Prim.Native.Nat.{ℕ, _+_, _-_, _*_, _<_, _≤_}
 use native.Mathlib.Omega.{arith}
@@ -15,10 +15,6 @@ use Rattle.engine.proofs.PlayStep.{getD-within}
 use Rattle.engine.proofs.ReadyLaws.{ready-looks, mask-begin, mask-next, mask-end, mask-room}
 use Rattle.engine.proofs.ready.ready_mask.Statement.{statement}
 use Rattle.engine.proofs.ready.ready_mask.Tie as tie
-use Rattle.engine.proofs.ready.ready_mask.Reads as reads
-use Rattle.engine.proofs.ready.ready_mask.Lts as lts
-use Rattle.engine.proofs.ready.bit.Reads as bit-reads
-use Rattle.engine.proofs.ready.is_ready.Reads as is-ready-reads
 
 abbrev Inv-loop : tie.InvT-loop
 Inv-loop table n comms entries lens actors m₀ a₀ m a = (a ≤ n) × ((log heads tails : List ℕ) → m ≡ maskOf (ready table (siteWith actors comms entries lens log heads tails)) (n - a) a)
@@ -33,26 +29,21 @@ room-left {table} {actors} {comms} {entries} {lens} {n} {m} {a} A counted inv so
     let few : n - a ≤ 7 = omega (arith, A .accepted .actors-most) in
     rw (inv .1 [] [] []) (mask-room (ready table (siteWith actors comms entries lens [] [] [])) (n - a) a few)
 
--- src/ready.rt:78:5
 loop-holds : tie.Need-loop-holds Inv-loop μ-loop
 loop-holds c =
     (omega arith, λ log heads tails. mask-begin (ready (c .before .args .table .now) (siteWith (c .before .args .t3) (c .before .args .comms .now) (c .before .args .entries .now) (c .before .args .lens .now) log heads tails)) (c .before .args .n))
 
--- src/ready.rt:79:9
 sub-a : tie.Need-sub-a Inv-loop μ-loop
 sub-a c = search needs
 
--- src/ready.rt:80:17
 mul-r : tie.Need-mul-r Inv-loop μ-loop
 mul-r c =
     omega (arith, c .before .before .before .pre .0 .actors-long, c .before .before .before .pre .0 .accepted .actors-most, c .before .before .before .pre .1, c .loop-test .taken)
 
--- src/ready.rt:80:17
 array-copy-out-r : tie.Need-array-copy-out-r Inv-loop μ-loop
 array-copy-out-r c =
     omega (arith, c .before .before .before .pre .0 .actors-long, c .before .before .before .pre .0 .accepted .actors-most, c .before .before .before .pre .1, c .loop-test .taken)
 
--- src/ready.rt:81:17
 is-ready-requires : tie.Need-is-ready-requires Inv-loop μ-loop
 is-ready-requires c κs =
     let p = c .before .before .before .before .pre .0 in
@@ -64,25 +55,20 @@ is-ready-requires c κs =
       queue-room = p .queue-room;
     }
 
--- src/ready.rt:81:13
 bit-requires : tie.Need-bit-requires Inv-loop μ-loop
 bit-requires c κs = search needs
 
--- src/ready.rt:81:64
 mul-m : tie.Need-mul-m Inv-loop μ-loop
 mul-m c =
     omega (arith, c .bit .ensures .1, room-left (c .before .before .before .before .before .before .pre .0) (c .before .before .before .before .before .before .pre .1) (c .before .before .before .before .loop .inv) (c .before .before .before .loop-test .taken))
 
--- src/ready.rt:81:13
 add-m : tie.Need-add-m Inv-loop μ-loop
 add-m c =
     omega (arith, c .bit .ensures .1, room-left (c .before .before .before .before .before .before .pre .0) (c .before .before .before .before .before .before .pre .1) (c .before .before .before .before .loop .inv) (c .before .before .before .loop-test .taken))
 
--- src/ready.rt:78:5
 loop-less : tie.Need-loop-less Inv-loop μ-loop
 loop-less c = search needs
 
--- src/ready.rt:78:5
 loop-again : tie.Need-loop-again Inv-loop μ-loop
 loop-again c = (
   omega arith,
@@ -100,7 +86,6 @@ loop-again c = (
       ∙ sym (mask-next (ready (c .before .before .before .before .before .before .args .table .now) (siteWith (c .before .before .before .before .before .before .args .t3) (c .before .before .before .before .before .before .args .comms .now) (c .before .before .before .before .before .before .args .entries .now) (c .before .before .before .before .before .before .args .lens .now) log heads tails)) (c .before .before .before .before .before .before .args .n) (c .before .before .before .before .loop .a) (c .before .before .before .loop-test .taken) (c .before .before .before .before .loop .inv .0)),
 )
 
--- src/ready.rt:64:1
 returns : tie.Need-returns Inv-loop μ-loop
 returns c =
     λ log heads tails.

@@ -8,78 +8,57 @@ use Rattle.engine.proofs.Steps.{picks, picks-none}
 use borrow.Author.Needs.{needs}
 use Rattle.engine.proofs.step.picked.Statement.{statement}
 use Rattle.engine.proofs.step.picked.Tie as tie
-use Rattle.engine.proofs.step.picked.Reads as reads
-use Rattle.engine.proofs.step.picked.Lts as lts
-use Rattle.engine.proofs.Actor.put.Reads as put-reads
-use Rattle.table.proofs.access.action.Reads as action-reads
 
--- src/step.rt:114:25
 enum-told : tie.Need-enum-told
 enum-told c = search needs
 
--- src/step.rt:117:13
 enum-known-seen : tie.Need-enum-known-seen
 enum-known-seen c = search needs
 
--- src/step.rt:120:17
 action-requires : tie.Need-action-requires
 action-requires c κs = search needs
 
--- src/step.rt:122:47
 enum-known-x : tie.Need-enum-known-x
 enum-known-x c = search needs
 
--- src/step.rt:122:57
 put-requires : tie.Need-put-requires
 put-requires c κs =
     let fits = subst (λ s. Picks (c .before .before .before .before .before .before .before .before .args .table .now) (c .before .before .before .before .before .before .before .before .args .a) (seenOf s)) (c .before .before .before .before .before .seen .given .1) (c .before .before .before .before .before .before .before .before .pre .1) in
     (c .before .before .before .before .before .before .before .before .pre .0, subst CellFits (sym (c .before .before .before .action .ensures) ∙ c .before .x .given .1) fits)
 
--- src/step.rt:123:54
 enum-told-2 : tie.Need-enum-told-2
 enum-told-2 c = search needs
 
--- src/step.rt:124:54
 enum-told-3 : tie.Need-enum-told-3
 enum-told-3 c = search needs
 
--- src/step.rt:125:57
 enum-told-4 : tie.Need-enum-told-4
 enum-told-4 c = search needs
 
--- src/step.rt:129:22
 enum-told-5 : tie.Need-enum-told-5
 enum-told-5 c = search needs
 
--- src/step.rt:130:59
 enum-told-6 : tie.Need-enum-told-6
 enum-told-6 c = search needs
 
--- src/step.rt:131:59
 enum-told-7 : tie.Need-enum-told-7
 enum-told-7 c = search needs
 
--- src/step.rt:132:46
 enum-told-8 : tie.Need-enum-told-8
 enum-told-8 c = search needs
 
--- src/step.rt:133:48
 enum-told-9 : tie.Need-enum-told-9
 enum-told-9 c = search needs
 
--- src/step.rt:134:61
 enum-told-10 : tie.Need-enum-told-10
 enum-told-10 c = search needs
 
--- src/step.rt:135:61
 enum-told-11 : tie.Need-enum-told-11
 enum-told-11 c = search needs
 
--- src/step.rt:109:1
 returns : tie.Need-returns
 returns c = search needs
 
--- src/step.rt:109:1
 returns-2 : tie.Need-returns-2
 returns-2 c = (
   c .put .ensures .0,
@@ -88,43 +67,33 @@ returns-2 c = (
       (picks (actionOf (c .before .before .before .before .before .before .before .before .before .args .table .now) (c .before .before .before .before .before .before .before .before .before .args .a)) (seenOf (c .before .before .before .before .before .before .before .before .before .args .seen)) _ _ _ _ (c .before .before .before .before .before .before .before .before .before .args .r .cells) (ap seenOf (c .before .before .before .before .before .before .seen .given .1)) (sym (c .before .before .before .before .action .ensures) ∙ c .before .before .x .given .1)),
 )
 
--- src/step.rt:109:1
 returns-3 : tie.Need-returns-3
 returns-3 c = (refl, picks-none (actionOf (c .before .before .before .before .before .before .before .args .table .now) (c .before .before .before .before .before .before .before .args .a)) (seenOf (c .before .before .before .before .before .before .before .args .seen)) _ _ _ _ (c .before .before .before .before .before .before .before .args .r .cells) (ap seenOf (c .before .before .before .before .seen .given .1)) (sym (c .before .before .action .ensures) ∙ c .enum-told2 .given .1) refl)
 
--- src/step.rt:109:1
 returns-4 : tie.Need-returns-4
 returns-4 c = (refl, picks-none (actionOf (c .before .before .before .before .before .before .before .args .table .now) (c .before .before .before .before .before .before .before .args .a)) (seenOf (c .before .before .before .before .before .before .before .args .seen)) _ _ _ _ (c .before .before .before .before .before .before .before .args .r .cells) (ap seenOf (c .before .before .before .before .seen .given .1)) (sym (c .before .before .action .ensures) ∙ c .enum-told3 .given .1) refl)
 
--- src/step.rt:109:1
 returns-5 : tie.Need-returns-5
 returns-5 c = (refl, picks-none (actionOf (c .before .before .before .before .before .before .before .args .table .now) (c .before .before .before .before .before .before .before .args .a)) (seenOf (c .before .before .before .before .before .before .before .args .seen)) _ _ _ _ (c .before .before .before .before .before .before .before .args .r .cells) (ap seenOf (c .before .before .before .before .seen .given .1)) (sym (c .before .before .action .ensures) ∙ c .enum-told4 .given .1) refl)
 
--- src/step.rt:109:1
 returns-6 : tie.Need-returns-6
 returns-6 c = (refl, picks-none (actionOf (c .before .before .before .before .before .before .before .args .table .now) (c .before .before .before .before .before .before .before .args .a)) (seenOf (c .before .before .before .before .before .before .before .args .seen)) _ _ _ _ (c .before .before .before .before .before .before .before .args .r .cells) (ap seenOf (c .before .before .before .before .seen .given .1)) (sym (c .before .before .action .ensures) ∙ c .enum-told5 .given .1) refl)
 
--- src/step.rt:109:1
 returns-7 : tie.Need-returns-7
 returns-7 c = (refl, picks-none (actionOf (c .before .before .before .before .before .before .before .args .table .now) (c .before .before .before .before .before .before .before .args .a)) (seenOf (c .before .before .before .before .before .before .before .args .seen)) _ _ _ _ (c .before .before .before .before .before .before .before .args .r .cells) (ap seenOf (c .before .before .before .before .seen .given .1)) (sym (c .before .before .action .ensures) ∙ c .enum-told6 .given .1) refl)
 
--- src/step.rt:109:1
 returns-8 : tie.Need-returns-8
 returns-8 c = (refl, picks-none (actionOf (c .before .before .before .before .before .before .before .args .table .now) (c .before .before .before .before .before .before .before .args .a)) (seenOf (c .before .before .before .before .before .before .before .args .seen)) _ _ _ _ (c .before .before .before .before .before .before .before .args .r .cells) (ap seenOf (c .before .before .before .before .seen .given .1)) (sym (c .before .before .action .ensures) ∙ c .enum-told7 .given .1) refl)
 
--- src/step.rt:109:1
 returns-9 : tie.Need-returns-9
 returns-9 c = (refl, picks-none (actionOf (c .before .before .before .before .before .before .before .args .table .now) (c .before .before .before .before .before .before .before .args .a)) (seenOf (c .before .before .before .before .before .before .before .args .seen)) _ _ _ _ (c .before .before .before .before .before .before .before .args .r .cells) (ap seenOf (c .before .before .before .before .seen .given .1)) (sym (c .before .before .action .ensures) ∙ c .enum-told8 .given .1) refl)
 
--- src/step.rt:109:1
 returns-10 : tie.Need-returns-10
 returns-10 c = (refl, picks-none (actionOf (c .before .before .before .before .before .before .before .args .table .now) (c .before .before .before .before .before .before .before .args .a)) (seenOf (c .before .before .before .before .before .before .before .args .seen)) _ _ _ _ (c .before .before .before .before .before .before .before .args .r .cells) (ap seenOf (c .before .before .before .before .seen .given .1)) (sym (c .before .before .action .ensures) ∙ c .enum-told9 .given .1) refl)
 
--- src/step.rt:109:1
 returns-11 : tie.Need-returns-11
 returns-11 c = (refl, picks-none (actionOf (c .before .before .before .before .before .before .before .args .table .now) (c .before .before .before .before .before .before .before .args .a)) (seenOf (c .before .before .before .before .before .before .before .args .seen)) _ _ _ _ (c .before .before .before .before .before .before .before .args .r .cells) (ap seenOf (c .before .before .before .before .seen .given .1)) (sym (c .before .before .action .ensures) ∙ c .enum-told10 .given .1) refl)
 
--- src/step.rt:109:1
 returns-12 : tie.Need-returns-12
 returns-12 c = (refl, picks-none (actionOf (c .before .before .before .before .before .before .before .args .table .now) (c .before .before .before .before .before .before .before .args .a)) (seenOf (c .before .before .before .before .before .before .before .args .seen)) _ _ _ _ (c .before .before .before .before .before .before .before .args .r .cells) (ap seenOf (c .before .before .before .before .seen .given .1)) (sym (c .before .before .action .ensures) ∙ c .enum-told11 .given .1) refl)
 

@@ -1,7 +1,7 @@
 -- `engine::step::step` meets its contract: in each arm the action is known, its range gives what the callees ask, and what they ensure makes up the
 -- model's step of that action.
 -- Assumes nothing.
-use mathlib.Core.Path.{_≡_, refl, _∙_, ap, sym, subst}
+use mathlib.Core.Path.{refl, _∙_, ap, sym, subst}
 use mathlib.Core.List.{List}
 use Prim.Native.Nat.{ℕ, _+_}
 use native.Mathlib.Omega.{arith}
@@ -19,148 +19,106 @@ use Rattle.engine.proofs.Taken.{ranged, position-small, actor-small, li
 use borrow.Author.Needs.{needs}
 use Rattle.engine.proofs.step.step.Statement.{statement}
 use Rattle.engine.proofs.step.step.Tie as tie
-use Rattle.engine.proofs.step.step.Reads as reads
-use Rattle.engine.proofs.step.step.Lts as lts
-use Rattle.engine.proofs.Actor.add.Reads as add-reads
-use Rattle.engine.proofs.Actor.lesser.Reads as lesser-reads
-use Rattle.engine.proofs.Actor.next.Reads as next-reads
-use Rattle.engine.proofs.Actor.put.Reads as put-reads
-use Rattle.engine.proofs.look.communications.Reads as communications-reads
-use Rattle.engine.proofs.look.mutexes.Reads as mutexes-reads
-use Rattle.engine.proofs.mail.receive.Reads as receive-reads
-use Rattle.engine.proofs.mail.send.Reads as send-reads
-use Rattle.engine.proofs.mutex.join.Reads as join-reads
-use Rattle.engine.proofs.mutex.leave.Reads as leave-reads
-use Rattle.engine.proofs.step.is_seen.Reads as is-seen-reads
-use Rattle.engine.proofs.step.picked.Reads as picked-reads
-use Rattle.engine.proofs.step.told.Reads as told-reads
-use Rattle.table.proofs.access.action.Reads as action-reads
 
--- src/step.rt:34:9
 action-requires : tie.Need-action-requires
 action-requires c κs = search needs
 
--- src/step.rt:36:23
 enum-known-x : tie.Need-enum-known-x
 enum-known-x c = search needs
 
--- src/step.rt:38:20
 put-requires : tie.Need-put-requires
 put-requires c κs =
     (c .before .before .before .before .before .pre .eight, ranged (c .before .before .before .before .before .pre) _ (sym (c .before .before .before .action .ensures) ∙ c .before .x .given .1))
 
--- src/step.rt:38:20
 next-requires : tie.Need-next-requires
 next-requires c κs =
     omega (arith, c .put .ensures .0, position-small (c .before .before .before .before .before .before .pre))
 
--- src/step.rt:40:23
 enum-known-x-2 : tie.Need-enum-known-x-2
 enum-known-x-2 c = search needs
 
--- src/step.rt:42:20
 add-requires : tie.Need-add-requires
 add-requires c κs =
     let range = ranged (c .before .before .before .before .before .pre) _ (sym (c .before .before .before .action .ensures) ∙ c .before .x2 .given .1) in
     (c .before .before .before .before .before .pre .eight, range .0, range .1)
 
--- src/step.rt:42:20
 next-requires-2 : tie.Need-next-requires-2
 next-requires-2 c κs =
     omega (arith, c .add .ensures .0, position-small (c .before .before .before .before .before .before .pre))
 
--- src/step.rt:44:26
 enum-known-x-3 : tie.Need-enum-known-x-3
 enum-known-x-3 c = search needs
 
--- src/step.rt:46:20
 lesser-requires : tie.Need-lesser-requires
 lesser-requires c κs =
     let range = ranged (c .before .before .before .before .before .pre) _ (sym (c .before .before .before .action .ensures) ∙ c .before .x3 .given .1) in
     (c .before .before .before .before .before .pre .eight, range .0, range .1)
 
--- src/step.rt:46:20
 next-requires-3 : tie.Need-next-requires-3
 next-requires-3 c κs =
     omega (arith, c .lesser .ensures .0, position-small (c .before .before .before .before .before .before .pre))
 
--- src/step.rt:48:24
 enum-known-x-4 : tie.Need-enum-known-x-4
 enum-known-x-4 c = search needs
 
--- src/step.rt:49:25
 mul-value : tie.Need-mul-value
 mul-value c =
     omega (arith, (ranged (c .before .before .before .before .before .pre) _ (sym (c .before .before .before .action .ensures) ∙ c .before .x4 .given .1)) .1, c .before .before .before .before .before .pre .eight)
 
--- src/step.rt:49:25
 element-copy-out-value : tie.Need-element-copy-out-value
 element-copy-out-value c =
     omega (arith, (ranged (c .before .before .before .before .before .pre) _ (sym (c .before .before .before .action .ensures) ∙ c .before .x4 .given .1)) .1, c .before .before .before .before .before .pre .eight)
 
--- src/step.rt:50:50
 mul-send : tie.Need-mul-send
 mul-send c = search needs
 
--- src/step.rt:50:50
 add-send : tie.Need-add-send
 add-send c =
     omega (arith, position-small (c .before .before .before .before .before .before .before .before .before .before .pre), actor-small (c .before .before .before .before .before .before .before .before .before .before .pre))
 
--- src/step.rt:50:13
 send-requires : tie.Need-send-requires
 send-requires c κs =
     let S = c .before .before .before .before .before .before .before .before .before .before .pre in
     let range = ranged (c .before .before .before .before .before .before .before .before .before .before .pre) _ (sym (c .before .before .before .before .before .before .before .before .action .ensures) ∙ c .before .before .before .before .before .before .x4 .given .1) in
     (S .mail-room, omega (arith, position-small S, actor-small S), omega (arith, range .0, S .accepted .mailboxes-most), S .tail-room (ap waits (sym (c .before .before .before .before .before .before .before .before .action .ensures) ∙ c .before .before .before .before .before .before .x4 .given .1)) _)
 
--- src/step.rt:53:24
 next-requires-4 : tie.Need-next-requires-4
 next-requires-4 c κs =
     position-small (c .before .before .before .before .before .before .before .before .before .before .before .pre)
 
--- src/step.rt:56:27
 enum-known-x-5 : tie.Need-enum-known-x-5
 enum-known-x-5 c = search needs
 
--- src/step.rt:57:53
 mul-receive : tie.Need-mul-receive
 mul-receive c = search needs
 
--- src/step.rt:57:53
 add-receive : tie.Need-add-receive
 add-receive c =
     omega (arith, position-small (c .before .before .before .before .before .before .before .before .before .pre), actor-small (c .before .before .before .before .before .before .before .before .before .pre))
 
--- src/step.rt:57:13
 receive-requires : tie.Need-receive-requires
 receive-requires c κs =
     let S = c .before .before .before .before .before .before .before .before .before .pre in
     let range = ranged (c .before .before .before .before .before .before .before .before .before .pre) _ (sym (c .before .before .before .before .before .before .before .action .ensures) ∙ c .before .before .before .before .before .x5 .given .1) in
     (S .mail-room, omega (arith, position-small S, actor-small S), omega (arith, range .0, S .accepted .mailboxes-most), S .tail-room (ap waits (sym (c .before .before .before .before .before .before .before .action .ensures) ∙ c .before .before .before .before .before .x5 .given .1)) _)
 
--- src/step.rt:60:24
 next-requires-5 : tie.Need-next-requires-5
 next-requires-5 c κs =
     position-small (c .before .before .before .before .before .before .before .before .before .before .pre)
 
--- src/step.rt:63:27
 enum-known-x-6 : tie.Need-enum-known-x-6
 enum-known-x-6 c = search needs
 
--- src/step.rt:64:17
 communications-requires : tie.Need-communications-requires
 communications-requires c κs =
     let S = c .before .before .before .before .before .before .pre in
     let range = ranged (c .before .before .before .before .before .before .pre) _ (sym (c .before .before .before .before .action .ensures) ∙ c .before .before .x6 .given .1) in
     (S .mail-room .comms-long, S .mail-room .valued, actor-small S, listed-small S _ (range .1))
 
--- src/step.rt:67:29
 picked-requires : tie.Need-picked-requires
 picked-requires c κs =
     (c .before .before .before .before .before .before .before .pre .eight, subst (Picks (c .before .before .before .before .before .before .before .args .table .now) (c .before .before .before .before .before .before .before .args .a)) (sym (c .communications .ensures)) (pickable (c .before .before .before .before .before .before .before .pre) _ _ _ ((ranged (c .before .before .before .before .before .before .before .pre) _ (sym (c .before .before .before .before .before .action .ensures) ∙ c .before .before .before .x6 .given .1)) .1)))
 
--- src/step.rt:67:24
 told-requires : tie.Need-told-requires
 told-requires c κs =
     let S = c .before .before .before .before .before .before .before .before .pre in
@@ -171,27 +129,22 @@ told-requires c κs =
       subst SmallPlace (sym (c .before .communications .ensures)) (small-place _ _ _ (range .1 .most)),
     )
 
--- src/step.rt:70:27
 enum-known-x-7 : tie.Need-enum-known-x-7
 enum-known-x-7 c = search needs
 
--- src/step.rt:71:17
 communications-requires-2 : tie.Need-communications-requires-2
 communications-requires-2 c κs =
     let S = c .before .before .before .before .before .before .pre in
     let range = ranged (c .before .before .before .before .before .before .pre) _ (sym (c .before .before .before .before .action .ensures) ∙ c .before .before .x7 .given .1) in
     (S .mail-room .comms-long, S .mail-room .valued, actor-small S, listed-small S _ (range .1))
 
--- src/step.rt:73:24
 is-seen-requires : tie.Need-is-seen-requires
 is-seen-requires c κs = search needs
 
--- src/step.rt:74:29
 picked-requires-2 : tie.Need-picked-requires-2
 picked-requires-2 c κs =
     (c .before .before .before .before .before .before .before .before .pre .eight, subst (Picks (c .before .before .before .before .before .before .before .before .args .table .now) (c .before .before .before .before .before .before .before .before .args .a)) (sym (c .before .communications2 .ensures)) (pickable (c .before .before .before .before .before .before .before .before .pre) _ _ _ ((ranged (c .before .before .before .before .before .before .before .before .pre) _ (sym (c .before .before .before .before .before .before .action .ensures) ∙ c .before .before .before .before .x7 .given .1)) .1)))
 
--- src/step.rt:74:24
 told-requires-2 : tie.Need-told-requires-2
 told-requires-2 c κs =
     let S = c .before .before .before .before .before .before .before .before .before .pre in
@@ -202,79 +155,65 @@ told-requires-2 c κs =
       subst SmallPlace (sym (c .before .before .communications2 .ensures)) (small-place _ _ _ (range .1 .most)),
     )
 
--- src/step.rt:77:24
 enum-known-x-8 : tie.Need-enum-known-x-8
 enum-known-x-8 c = search needs
 
--- src/step.rt:78:13
 join-requires : tie.Need-join-requires
 join-requires c κs =
     let S = c .before .before .before .before .before .before .before .pre in
     let range = ranged (c .before .before .before .before .before .before .before .pre) _ (sym (c .before .before .before .before .before .action .ensures) ∙ c .before .before .before .x8 .given .1) in
     (S .queue-room, omega (arith, range, S .accepted .mutexes-most), actor-small S, S .join-room _)
 
--- src/step.rt:81:24
 next-requires-6 : tie.Need-next-requires-6
 next-requires-6 c κs =
     position-small (c .before .before .before .before .before .before .before .before .pre)
 
--- src/step.rt:84:26
 enum-known-x-9 : tie.Need-enum-known-x-9
 enum-known-x-9 c = search needs
 
--- src/step.rt:85:13
 leave-requires : tie.Need-leave-requires
 leave-requires c κs =
     let S = c .before .before .before .before .before .before .before .pre in
     let range = ranged (c .before .before .before .before .before .before .before .pre) _ (sym (c .before .before .before .before .before .action .ensures) ∙ c .before .before .before .x9 .given .1) in
     (S .queue-room, omega (arith, range, S .accepted .mutexes-most), actor-small S)
 
--- src/step.rt:88:24
 next-requires-7 : tie.Need-next-requires-7
 next-requires-7 c κs =
     position-small (c .before .before .before .before .before .before .before .before .pre)
 
--- src/step.rt:91:29
 enum-known-x-10 : tie.Need-enum-known-x-10
 enum-known-x-10 c = search needs
 
--- src/step.rt:92:17
 mutexes-requires : tie.Need-mutexes-requires
 mutexes-requires c κs =
     let S = c .before .before .before .before .before .before .before .pre in
     let range = ranged (c .before .before .before .before .before .before .before .pre) _ (sym (c .before .before .before .before .before .action .ensures) ∙ c .before .before .before .x10 .given .1) in
     (S .queue-room, λ j h. omega (arith, range .1 .right j h, S .accepted .mutexes-most))
 
--- src/step.rt:95:24
 told-requires-3 : tie.Need-told-requires-3
 told-requires-3 c κs =
     let S = c .before .before .before .before .before .before .before .before .pre in
     let range = ranged (c .before .before .before .before .before .before .before .before .pre) _ (sym (c .before .before .before .before .before .before .action .ensures) ∙ c .before .before .before .before .x10 .given .1) in
     (S .eight, range .0, position-small S, subst SmallPlace (sym (c .mutexes .ensures)) (small-place _ _ _ (range .1 .most)))
 
--- src/step.rt:98:29
 enum-known-x-11 : tie.Need-enum-known-x-11
 enum-known-x-11 c = search needs
 
--- src/step.rt:99:17
 mutexes-requires-2 : tie.Need-mutexes-requires-2
 mutexes-requires-2 c κs =
     let S = c .before .before .before .before .before .before .before .pre in
     let range = ranged (c .before .before .before .before .before .before .before .pre) _ (sym (c .before .before .before .before .before .action .ensures) ∙ c .before .before .before .x11 .given .1) in
     (S .queue-room, λ j h. omega (arith, range .1 .right j h, S .accepted .mutexes-most))
 
--- src/step.rt:101:24
 is-seen-requires-2 : tie.Need-is-seen-requires-2
 is-seen-requires-2 c κs = search needs
 
--- src/step.rt:102:24
 told-requires-4 : tie.Need-told-requires-4
 told-requires-4 c κs =
     let S = c .before .before .before .before .before .before .before .before .before .pre in
     let range = ranged (c .before .before .before .before .before .before .before .before .before .pre) _ (sym (c .before .before .before .before .before .before .before .action .ensures) ∙ c .before .before .before .before .before .x11 .given .1) in
     (S .eight, range .0, position-small S, subst SmallPlace (sym (c .before .mutexes2 .ensures)) (small-place _ _ _ (range .1 .most)))
 
--- src/step.rt:17:1
 returns : tie.Need-returns
 unfolding cellsAfter
 returns c =
@@ -283,7 +222,6 @@ returns c =
     (c .next .ensures .0 ∙ ap (λ (n : ℕ). n + 1) (c .before .put .ensures .0))
     (c .next .ensures .1 ∙ c .before .put .ensures .1))
 
--- src/step.rt:17:1
 returns-2 : tie.Need-returns-2
 unfolding cellsAfter
 returns-2 c =
@@ -292,7 +230,6 @@ returns-2 c =
     (c .next2 .ensures .0 ∙ ap (λ (n : ℕ). n + 1) (c .before .add .ensures .0))
     (c .next2 .ensures .1 ∙ c .before .add .ensures .1))
 
--- src/step.rt:17:1
 returns-3 : tie.Need-returns-3
 unfolding cellsAfter
 returns-3 c =
@@ -301,7 +238,6 @@ returns-3 c =
     (c .next3 .ensures .0 ∙ ap (λ (n : ℕ). n + 1) (c .before .lesser .ensures .0))
     (c .next3 .ensures .1 ∙ c .before .lesser .ensures .1))
 
--- src/step.rt:17:1
 returns-4 : tie.Need-returns-4
 unfolding cellsAfter
 returns-4 c =
@@ -310,7 +246,6 @@ returns-4 c =
     (c .before .send .ensures .mail ∙ meets-as (c .before .before .before .before .before .before .before .before .before .before .before .before .pre) (sendsAt (c .before .before .before .before .before .before .before .before .x4 .given .0 .0)) (getD (c .before .before .before .before .before .before .before .before .before .before .before .before .args .t3 .cells) (c .before .before .before .before .before .before .before .before .x4 .given .0 .1 .0) 0) (mailOf (c .before .before .before .before .before .before .before .before .before .before .before .before .args .comms .now) (c .before .before .before .before .before .before .before .before .before .before .before .before .args .log .now) (c .before .before .before .before .before .before .before .before .before .before .before .before .args .heads .now) (c .before .before .before .before .before .before .before .before .before .before .before .before .args .tails .now)))
     (c .before .send .ensures .room) (c .before .send .ensures .grown) (c .next4 .ensures .0) (c .next4 .ensures .1))
 
--- src/step.rt:17:1
 returns-5 : tie.Need-returns-5
 unfolding cellsAfter
 returns-5 c =
@@ -319,7 +254,6 @@ returns-5 c =
     (c .before .receive .ensures .mail ∙ meets-as (c .before .before .before .before .before .before .before .before .before .before .before .pre) (receivesAt (c .before .before .before .before .before .before .before .x5 .given .0 .0)) 0 (mailOf (c .before .before .before .before .before .before .before .before .before .before .before .args .comms .now) (c .before .before .before .before .before .before .before .before .before .before .before .args .log .now) (c .before .before .before .before .before .before .before .before .before .before .before .args .heads .now) (c .before .before .before .before .before .before .before .before .before .before .before .args .tails .now)))
     (c .before .receive .ensures .room) (c .before .receive .ensures .grown) (c .next5 .ensures .0) (c .next5 .ensures .1))
 
--- src/step.rt:17:1
 returns-6 : tie.Need-returns-6
 unfolding cellsAfter
 returns-6 c =
@@ -330,7 +264,6 @@ returns-6 c =
     ∙ ap (λ (cs : List ℕ). set cs (c .before .before .before .before .before .x6 .given .0 .0) (placeSeen (seenOf (c .before .before .communications .result)))) (c .before .picked .ensures .1)
     ∙ ap (λ (f : Seen). set (pickUpSeen (actionOf (c .before .before .before .before .before .before .before .before .before .args .table .now) (c .before .before .before .before .before .before .before .before .before .args .a)) f (c .before .before .before .before .before .before .before .before .before .args .t3 .cells)) (c .before .before .before .before .before .x6 .given .0 .0) (placeSeen f)) (c .before .before .communications .ensures)))
 
--- src/step.rt:17:1
 returns-7 : tie.Need-returns-7
 unfolding cellsAfter
 returns-7 c =
@@ -341,7 +274,6 @@ returns-7 c =
     ∙ ap (λ (cs : List ℕ). set cs (c .before .before .before .before .before .before .x7 .given .0 .0) (placeSeen (seenOf (c .before .before .before .communications2 .result)))) (c .before .picked2 .ensures .1)
     ∙ ap (λ (f : Seen). set (pickUpSeen (actionOf (c .before .before .before .before .before .before .before .before .before .before .args .table .now) (c .before .before .before .before .before .before .before .before .before .before .args .a)) f (c .before .before .before .before .before .before .before .before .before .before .args .t3 .cells)) (c .before .before .before .before .before .before .x7 .given .0 .0) (placeSeen f)) (c .before .before .before .communications2 .ensures)))
 
--- src/step.rt:17:1
 returns-8 : tie.Need-returns-8
 unfolding cellsAfter
 returns-8 c =
@@ -349,7 +281,6 @@ returns-8 c =
     (queued (c .before .before .before .before .before .before .before .before .before .pre) (Lock (c .before .before .before .before .before .x8 .given .0 .0)) (record { ready = true; actor = c .next6 .result }) (joins (c .before .before .before .before .before .x8 .given .0 .0)) refl refl (λ me v mail. refl)
     (c .before .join .ensures .0) (c .before .join .ensures .1) (c .next6 .ensures .0) (c .next6 .ensures .1))
 
--- src/step.rt:17:1
 returns-9 : tie.Need-returns-9
 unfolding cellsAfter
 returns-9 c =
@@ -357,7 +288,6 @@ returns-9 c =
     (queued (c .before .before .before .before .before .before .before .before .before .pre) (Unlock (c .before .before .before .before .before .x9 .given .0 .0)) (record { ready = true; actor = c .next7 .result }) (leaves (c .before .before .before .before .before .x9 .given .0 .0)) refl refl (λ me v mail. refl)
     (c .before .leave .ensures .0) (c .before .leave .ensures .1) (c .next7 .ensures .0) (c .next7 .ensures .1))
 
--- src/step.rt:17:1
 returns-10 : tie.Need-returns-10
 unfolding cellsAfter
 returns-10 c =
@@ -366,7 +296,6 @@ returns-10 c =
     (c .told3 .ensures .0)
     (c .told3 .ensures .1 ∙ ap (λ (f : Seen). set (c .before .before .before .before .before .before .before .before .before .args .t3 .cells) (c .before .before .before .before .before .x10 .given .0 .0) (placeSeen f)) (c .before .mutexes .ensures)))
 
--- src/step.rt:17:1
 returns-11 : tie.Need-returns-11
 unfolding cellsAfter
 returns-11 c =

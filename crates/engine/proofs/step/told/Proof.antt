@@ -9,40 +9,28 @@ use Rattle.engine.specs.StepParts.{SmallPlace}
 use borrow.Author.Needs.{needs}
 use Rattle.engine.proofs.step.told.Statement.{statement}
 use Rattle.engine.proofs.step.told.Tie as tie
-use Rattle.engine.proofs.step.told.Reads as reads
-use Rattle.engine.proofs.step.told.Lts as lts
-use Rattle.engine.proofs.Actor.next.Reads as next-reads
-use Rattle.engine.proofs.Actor.put.Reads as put-reads
 
--- src/step.rt:147:25
 enum-told : tie.Need-enum-told
 enum-told c = search needs
 
--- src/step.rt:147:25
 put-requires : tie.Need-put-requires
 put-requires c κs = search needs
 
--- src/step.rt:147:25
 next-requires : tie.Need-next-requires
 next-requires c κs = search needs
 
--- src/step.rt:149:13
 enum-known-seen : tie.Need-enum-known-seen
 enum-known-seen c = search needs
 
--- src/step.rt:152:28
 cast-put : tie.Need-cast-put
 cast-put c = let small = subst (λ s. SmallPlace (seenOf s)) (c .before .seen .given .1) (c .before .before .before .pre .3) in omega (arith, small)
 
--- src/step.rt:152:14
 put-requires-2 : tie.Need-put-requires-2
 put-requires-2 c κs = search needs
 
--- src/step.rt:152:14
 next-requires-2 : tie.Need-next-requires-2
 next-requires-2 c κs = search needs
 
--- src/step.rt:142:1
 returns : tie.Need-returns
 returns c = (
   omega (arith, c .next .ensures .0, c .before .put .ensures .0),
@@ -50,7 +38,6 @@ returns c = (
       ∙ ap (λ s. set (c .before .before .before .before .args .r .cells) (c .before .before .before .before .args .result) (placeSeen (seenOf s))) (sym (c .before .before .enum-told .given .1)),
 )
 
--- src/step.rt:142:1
 returns-2 : tie.Need-returns-2
 returns-2 c = (
   omega (arith, c .next2 .ensures .0, c .before .put2 .ensures .0),
