@@ -1,0 +1,26 @@
+-- The proofs of this crate that belong to no one function.
+pub mod CodeKinds
+pub mod CodeLaw
+pub mod CodeTable
+pub mod ListPlaces
+pub mod Tables
+pub mod MarkBits
+pub mod MarkGroups
+pub mod MarkPosts
+pub mod MarkLooks
+pub mod MarkPlaces
+pub mod MarkRanges
+pub mod MarksMeet
+pub mod NamedBytes
+pub mod SameBelow
+pub mod SameCrosses
+pub mod SameLocate
+pub mod SameNamed
+pub mod SamePairs
+pub mod SamePlaces
+pub mod SameSearch
+pub mod SameVerdict
+pub mod RouteNames
+pub mod RouteBring
+pub mod RouteWrite
+pub mod RouteTurns

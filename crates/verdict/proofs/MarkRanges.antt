@@ -1,0 +1,77 @@
+-- What a step of an accepted table posts and looks at has mailboxes and mutexes below 8.
+-- Assumes nothing but the accepted table.
+use Prim.Native.Nat.{ℕ, zero, suc, _<_, suc-le-suc, zero-le}
+use native.Mathlib.Omega.{arith}
+use mathlib.Core.List.{List, [], _∷_}
+use lib.ListN.{getD, take}
+use Rattle.table.specs.declared.Action.{Action}
+use Rattle.table.specs.declared.Action.the-variants.{Set, Add, Lesser, Send, Receive, TestAny, WaitAny, Lock, Unlock, MutexTest, MutexWait}
+use Rattle.table.specs.declared.Numbers.{Numbers}
+use Rattle.table.specs.Format.{mutexesOf}
+use Rattle.table.specs.Promise.{Accepted, Listing, LowerPost, InRange}
+use Rattle.trace.specs.Machine.{Name}
+use Rattle.model.specs.Site.{name}
+use Rattle.model.specs.Views.{posts, looks, listed}
+use Rattle.model.specs.Step.{actionAt}
+use Rattle.model.specs.Pair.{postAt}
+use Rattle.verdict.specs.Names.{Stands}
+use Rattle.verdict.specs.Marks.{SmallPost, Each, SmallLook}
+
+each-taken : (P : ℕ → Type 0) (c : ℕ) (l : List ℕ) → ((i : ℕ) → i < c → P (getD l i 0)) → Each P (take c l)
+each-taken P zero l h = tt
+each-taken P (suc c) [] h = tt
+each-taken P (suc c) (k ∷ l) h = (h zero (suc-le-suc zero-le), each-taken P c l (λ i lt. h (suc i) (suc-le-suc lt)))
+
+-- every number that a list names is right
+pub each-listed : (P : ℕ → Type 0) (l : Numbers) → Listing P l → Each P (listed l)
+each-listed P l h = each-taken P (l .count) (l .n0 ∷ l .n1 ∷ l .n2 ∷ l .n3 ∷ []) (h .right)
+
+each-map : {P Q : ℕ → Type 0} → ((k : ℕ) → P k → Q k) → (l : List ℕ) → Each P l → Each Q l
+each-map f [] e = tt
+each-map f (k ∷ l) e = (f k (e .0), each-map f l (e .1))
+
+module _ (table : List ℕ) (accepted : Accepted table) where
+  post-small : (a k : ℕ) (x : Action) → InRange table a k x → SmallPost (posts x)
+  post-small a k (Set cell value) h = tt
+  post-small a k (Add cell other) h = tt
+  post-small a k (Lesser cell other) h = tt
+  post-small a k (Send mailbox cell) h = omega (arith, h .0, accepted .mailboxes-most)
+  post-small a k (Receive mailbox cell) h = omega (arith, h .0, accepted .mailboxes-most)
+  post-small a k (TestAny result list) h = tt
+  post-small a k (WaitAny result list) h = tt
+  post-small a k (Lock mutex) h = omega (arith, h, accepted .mutexes-most)
+  post-small a k (Unlock mutex) h = omega (arith, h, accepted .mutexes-most)
+  post-small a k (MutexTest result list) h = tt
+  post-small a k (MutexWait result list) h = tt
+
+  pub small-post : (x : Name) → Stands table x → SmallPost (posts (actionAt table x))
+  small-post x s = post-small (x .actor) (x .position) (actionAt table x) (accepted .in-range (x .actor) (x .position) (s .0) (s .1))
+
+  -- a listed action stands in the table too
+  pub listed-stands : (x : Name) → Stands table x → (j : ℕ) → LowerPost table (x .actor) (x .position) j → Stands table (name (x .actor) j)
+  listed-stands x s j h = (s .0, omega (arith, s .1, h .0))
+
+  pub listed-small : (x : Name) → Stands table x → (l : Numbers) → Listing (LowerPost table (x .actor) (x .position)) l
+      → Each (λ j. SmallPost (postAt table (x .actor) j)) (listed l)
+  listed-small x s l h =
+      each-map (λ j lower. small-post (name (x .actor) j) (listed-stands x s j lower)) (listed l)
+      (each-listed (LowerPost table (x .actor) (x .position)) l h)
+
+  mutexes-small : (l : Numbers) → Listing (λ m. m < mutexesOf table) l → Each (λ m. m < 8) (listed l)
+  mutexes-small l h = each-map (λ m lt. omega (arith, lt, accepted .mutexes-most)) (listed l) (each-listed (λ m. m < mutexesOf table) l h)
+
+  look-small : (x : Name) → Stands table x → (t : Action) → InRange table (x .actor) (x .position) t → SmallLook (postAt table (x .actor)) (looks t)
+  look-small x s (Set cell value) h = tt
+  look-small x s (Add cell other) h = tt
+  look-small x s (Lesser cell other) h = tt
+  look-small x s (Send mailbox cell) h = tt
+  look-small x s (Receive mailbox cell) h = tt
+  look-small x s (TestAny result list) h = listed-small x s list (h .1)
+  look-small x s (WaitAny result list) h = listed-small x s list (h .1)
+  look-small x s (Lock mutex) h = tt
+  look-small x s (Unlock mutex) h = tt
+  look-small x s (MutexTest result list) h = mutexes-small list (h .1)
+  look-small x s (MutexWait result list) h = mutexes-small list (h .1)
+
+  pub small-look : (x : Name) → Stands table x → SmallLook (postAt table (x .actor)) (looks (actionAt table x))
+  small-look x s = look-small x s (actionAt table x) (accepted .in-range (x .actor) (x .position) (s .0) (s .1))

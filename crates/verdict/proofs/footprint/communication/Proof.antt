@@ -1,0 +1,36 @@
+-- `verdict::footprint::communication` meets its contract.
+-- Assumes nothing.
+use mathlib.Core.Path.{_∙_, ap, sym, subst}
+use Rattle.table.specs.declared.Action.{Action}
+use Rattle.model.specs.Views.{posts}
+use Rattle.model.specs.Pair.{postAt}
+use Rattle.verdict.specs.Marks.{listedMarks, listedMeets, SmallPost}
+use Rattle.verdict.proofs.MarkPlaces.{beyond, within}
+use borrow.Author.Needs.{needs}
+use Rattle.verdict.proofs.footprint.communication.Statement.{statement}
+use Rattle.verdict.proofs.footprint.communication.Tie as tie
+
+returns : tie.Need-returns
+returns c =
+    let x = c .before .before .args in
+    let own = postAt (x .table .now) (x .a) (x .k) in
+    (beyond (x .count) (x .place) (listedMarks own) (c .if1 .taken), beyond (x .count) (x .place) (listedMeets own) (c .if1 .taken))
+
+action-requires : tie.Need-action-requires
+action-requires c κs = search needs
+
+listed-requires : tie.Need-listed-requires
+listed-requires c κs =
+    subst (λ (t : Action). SmallPost (posts t)) (sym (c .action .ensures)) (c .before .before .before .pre (c .before .if1 .left))
+
+returns-2 : tie.Need-returns-2
+returns-2 c =
+    let x = c .before .before .before .before .args in
+    let there = c .before .before .if1 .left in
+    let same = c .before .action .ensures in (
+      c .listed .ensures .0 ∙ ap (λ (t : Action). listedMarks (posts t)) same ∙ within (x .count) (x .place) (listedMarks (postAt (x .table .now) (x .a) (x .k))) there,
+      c .listed .ensures .1 ∙ ap (λ (t : Action). listedMeets (posts t)) same ∙ within (x .count) (x .place) (listedMeets (postAt (x .table .now) (x .a) (x .k))) there,
+    )
+
+pub communication-spec : {M : Type 1} → statement M
+communication-spec = tie.close (tie.spec returns action-requires listed-requires returns-2)

@@ -1,0 +1,340 @@
+// The pair verdict: whether two steps are dependent, by a table of comparison codes.
+ghost use mathlib.Core.Path.{_≡_};
+ghost use Prim.Native.Nat.{_<_};
+ghost use mathlib.Core.Bool.{_&&_};
+ghost use lib.Dec.{eqb, leb};
+ghost use Rattle.table.specs.Decode.{actionOf};
+ghost use Rattle.table.specs.Promise.{Accepted};
+ghost use Rattle.trace.specs.Theorems.{has};
+ghost use Rattle.model.specs.Site.{name};
+ghost use Rattle.model.specs.Views.{listed};
+ghost use Rattle.model.specs.Pair.{anyOf, depends};
+ghost use Rattle.verdict.specs.Codes.{kindOf, targetOf, listOf, isOn, codeOf, comparison};
+ghost use Rattle.verdict.specs.Names.{Stands};
+use table::Action;
+use table::Numbers;
+use table::access;
+
+// Kind against kind, which comparison applies: 0 none, the two are independent; 1 one mailbox; 2 a listed Receive against a Send; 3 a listed Send
+// against a Receive; 4 one mutex; 5 a listed mutex against an Unlock.
+const CODES: [u8; 121] = [
+    // Set
+    0,
+    0,
+    0,
+    0,
+    0,
+    0,
+    0,
+    0,
+    0,
+    0,
+    0,
+    // Add
+    0,
+    0,
+    0,
+    0,
+    0,
+    0,
+    0,
+    0,
+    0,
+    0,
+    0,
+    // Lesser
+    0,
+    0,
+    0,
+    0,
+    0,
+    0,
+    0,
+    0,
+    0,
+    0,
+    0,
+    // Send
+    0,
+    0,
+    0,
+    1, // Send, Send
+    0, // Send, Receive
+    2, // Send, TestAny
+    2, // Send, WaitAny
+    0,
+    0,
+    0,
+    0,
+    // Receive
+    0,
+    0,
+    0,
+    0, // Receive, Send
+    1, // Receive, Receive
+    3, // Receive, TestAny
+    3, // Receive, WaitAny
+    0,
+    0,
+    0,
+    0,
+    // TestAny
+    0,
+    0,
+    0,
+    2, // TestAny, Send
+    3, // TestAny, Receive
+    0,
+    0,
+    0,
+    0,
+    0,
+    0,
+    // WaitAny
+    0,
+    0,
+    0,
+    2, // WaitAny, Send
+    3, // WaitAny, Receive
+    0,
+    0,
+    0,
+    0,
+    0,
+    0,
+    // Lock
+    0,
+    0,
+    0,
+    0,
+    0,
+    0,
+    0,
+    4, // Lock, Lock
+    0, // Lock, Unlock
+    0,
+    0,
+    // Unlock
+    0,
+    0,
+    0,
+    0,
+    0,
+    0,
+    0,
+    0, // Unlock, Lock
+    0,
+    5, // Unlock, MutexTest
+    5, // Unlock, MutexWait
+    // MutexTest
+    0,
+    0,
+    0,
+    0,
+    0,
+    0,
+    0,
+    0,
+    5, // MutexTest, Unlock
+    0,
+    0,
+    // MutexWait
+    0,
+    0,
+    0,
+    0,
+    0,
+    0,
+    0,
+    0,
+    5, // MutexWait, Unlock
+    0,
+    0,
+];
+
+// Whether two steps of the table, actor·action each, are dependent.
+pub fn dependent(table: &[u8], a: usize, k: usize, b: usize, l: usize) -> bool
+    requires { ⌜ Accepted (now table) × Stands (now table) (name a k) × Stands (now table) (name b l) ⌝ }
+    ensures { λ r. ⌜ r ≡ depends (now (table .entry)) (name a k) (name b l) ⌝ }
+{
+    if a == b {
+        return true;
+    }
+    let x = access::action(table, a, k);
+    let y = access::action(table, b, l);
+    let i = kind(x);
+    let j = kind(y);
+    let code = code(i, j);
+    if i < j {
+        return compare(code, table, b, y, x);
+    }
+    compare(code, table, a, x, y)
+}
+
+// The table's entry for two kinds, which is the same in either order.
+fn code(i: usize, j: usize) -> u8
+    requires { ⌜ (i < 11) × (j < 11) ⌝ }
+    ensures { λ r. ⌜ (r ≡ codeOf i j) × (r ≡ codeOf j i) ⌝ }
+{
+    CODES[11 * i + j]
+}
+
+// What a code compares of x, of actor a, and y.
+fn compare(code: u8, table: &[u8], a: usize, x: Action, y: Action) -> bool
+    ensures { λ r. ⌜ r ≡ comparison code (actionOf (now (table .entry)) a) x y ⌝ }
+{
+    match code {
+        1 => target(x) == target(y),
+        2 => lists_mail(table, a, list(x), 4, target(y)),
+        3 => lists_mail(table, a, list(x), 3, target(y)),
+        4 => target(x) == target(y),
+        5 => lists_mutex(list(x), target(y)),
+        _ => false,
+    }
+}
+
+// A list of actor a's actions names one of this kind on mailbox m.
+fn lists_mail(table: &[u8], a: usize, list: Numbers, kind: usize, m: usize) -> bool
+    ensures { λ r. ⌜ r ≡ anyOf (λ k. isOn kind m (actionOf (now (table .entry)) a k)) (listed list) ⌝ }
+{
+    if mail_at(table, a, list.count, 1, list.n0, kind, m) {
+        return true;
+    }
+    if mail_at(table, a, list.count, 2, list.n1, kind, m) {
+        return true;
+    }
+    if mail_at(table, a, list.count, 3, list.n2, kind, m) {
+        return true;
+    }
+    mail_at(table, a, list.count, 4, list.n3, kind, m)
+}
+
+// A list of `count` numbers has this place, and action k of actor a there is of this kind on mailbox m.
+fn mail_at(
+    table: &[u8],
+    a: usize,
+    count: usize,
+    place: usize,
+    k: usize,
+    wanted: usize,
+    m: usize,
+) -> bool
+    ensures { λ r. ⌜ r ≡ leb place count && isOn wanted m (actionOf (now (table .entry)) a k) ⌝ }
+{
+    if count < place {
+        return false;
+    }
+    let x = access::action(table, a, k);
+    if kind(x) != wanted {
+        return false;
+    }
+    target(x) == m
+}
+
+// A list names mutex m.
+fn lists_mutex(list: Numbers, m: usize) -> bool
+    ensures { λ r. ⌜ r ≡ has (listed list) m ⌝ }
+{
+    if mutex_at(list.count, 1, list.n0, m) {
+        return true;
+    }
+    if mutex_at(list.count, 2, list.n1, m) {
+        return true;
+    }
+    if mutex_at(list.count, 3, list.n2, m) {
+        return true;
+    }
+    mutex_at(list.count, 4, list.n3, m)
+}
+
+// A list of `count` numbers has this place, and mutex n there is m.
+fn mutex_at(count: usize, place: usize, n: usize, m: usize) -> bool
+    ensures { λ r. ⌜ r ≡ leb place count && eqb m n ⌝ }
+{
+    if count < place {
+        return false;
+    }
+    m == n
+}
+
+// The number of an action's kind.
+fn kind(x: Action) -> usize
+    ensures { λ r. ⌜ r ≡ kindOf x ⌝ }
+{
+    match x {
+        Action::Set { cell: _, value: _ } => 0,
+        Action::Add { cell: _, other: _ } => 1,
+        Action::Lesser { cell: _, other: _ } => 2,
+        Action::Send {
+            mailbox: _,
+            cell: _,
+        } => 3,
+        Action::Receive {
+            mailbox: _,
+            cell: _,
+        } => 4,
+        Action::TestAny { result: _, list: _ } => 5,
+        Action::WaitAny { result: _, list: _ } => 6,
+        Action::Lock { mutex: _ } => 7,
+        Action::Unlock { mutex: _ } => 8,
+        Action::MutexTest { result: _, list: _ } => 9,
+        Action::MutexWait { result: _, list: _ } => 10,
+    }
+}
+
+// The mailbox of a Send or a Receive, the mutex of a Lock or an Unlock.
+fn target(x: Action) -> usize
+    ensures { λ r. ⌜ r ≡ targetOf x ⌝ }
+{
+    match x {
+        Action::Set { cell: _, value: _ } => 0,
+        Action::Add { cell: _, other: _ } => 0,
+        Action::Lesser { cell: _, other: _ } => 0,
+        Action::Send { mailbox, cell: _ } => mailbox,
+        Action::Receive { mailbox, cell: _ } => mailbox,
+        Action::TestAny { result: _, list: _ } => 0,
+        Action::WaitAny { result: _, list: _ } => 0,
+        Action::Lock { mutex } => mutex,
+        Action::Unlock { mutex } => mutex,
+        Action::MutexTest { result: _, list: _ } => 0,
+        Action::MutexWait { result: _, list: _ } => 0,
+    }
+}
+
+// What a Test or a Wait lists; nothing for another action.
+fn list(x: Action) -> Numbers
+    ensures { λ r. ⌜ listed r ≡ listOf x ⌝ }
+{
+    match x {
+        Action::Set { cell: _, value: _ } => none(),
+        Action::Add { cell: _, other: _ } => none(),
+        Action::Lesser { cell: _, other: _ } => none(),
+        Action::Send {
+            mailbox: _,
+            cell: _,
+        } => none(),
+        Action::Receive {
+            mailbox: _,
+            cell: _,
+        } => none(),
+        Action::TestAny { result: _, list } => list,
+        Action::WaitAny { result: _, list } => list,
+        Action::Lock { mutex: _ } => none(),
+        Action::Unlock { mutex: _ } => none(),
+        Action::MutexTest { result: _, list } => list,
+        Action::MutexWait { result: _, list } => list,
+    }
+}
+
+// A list of nothing.
+fn none() -> Numbers
+    ensures { λ r. ⌜ r .count ≡ 0 ⌝ }
+{
+    Numbers {
+        count: 0,
+        n0: 0,
+        n1: 0,
+        n2: 0,
+        n3: 0,
+    }
+}
