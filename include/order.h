@@ -72,6 +72,60 @@ typedef struct {
 /* Which actors are ready at the end of a schedule from a fresh site. Refusals 1 to 9, then 11 to 13, as for order_run. */
 OrderReady order_ready(const uint8_t *table, size_t table_length, const uint8_t *schedule, size_t schedule_length);
 
+/* The verdict on two steps: 0 independent, 1 dependent. */
+typedef struct {
+    uint32_t refusal;
+    uint32_t position;
+    uint32_t verdict;
+} OrderPair;
+
+/* Whether two steps are dependent, each named by its actor and the number of its action.
+ *
+ *   refusal  position  what is wrong, in this order
+ *   1 to 9   as above  the table is refused
+ *   17       0         a name is not in the table
+ */
+OrderPair order_pair(const uint8_t *table, size_t table_length, uint8_t actor, uint8_t action, uint8_t actor2,
+                     uint8_t action2);
+
+/* The verdict on two schedules: 0 different, 1 same. */
+typedef struct {
+    uint32_t refusal;
+    uint32_t position;
+    uint32_t verdict;
+} OrderSame;
+
+/* Whether a chain of exchanges of independent neighbouring steps turns the first schedule into the second. The first is
+ * stepped whole before the second. Accepted schedules of different lengths are different.
+ *
+ *   refusal   position       what is wrong, in this order
+ *   1 to 9    as above       the table is refused
+ *   11 to 13  entry's index  the first schedule is refused, as for order_run
+ *   14 to 16  entry's index  the second schedule is refused likewise: no such actor, finished, not ready
+ */
+OrderSame order_same(const uint8_t *table, size_t table_length, const uint8_t *first, size_t first_length,
+                     const uint8_t *second, size_t second_length);
+
+/* What a route answers: the number of positions that were written. */
+typedef struct {
+    uint32_t refusal;
+    uint32_t position;
+    uint32_t length;
+} OrderRoute;
+
+/* Writes a route from the first schedule to the second into the first entries of `route`; the entries after it stay as they
+ * were. Each position k exchanges entries k and k + 1 of what the positions before it left, which are independent steps;
+ * replaying them all turns the first schedule into the second. `route_length` is the number of entries of `route`, and m the
+ * number of entries of a schedule.
+ *
+ *   refusal   position       what is wrong, in this order
+ *   1 to 16   as above       the table or a schedule is refused, as for order_same
+ *   19        0              the schedules are different
+ *   18        0              the route buffer has under m * (m - 1) / 2 entries
+ */
+OrderRoute order_route(const uint8_t *table, size_t table_length, const uint8_t *first, size_t first_length,
+                       const uint8_t *second, size_t second_length, uint16_t *route, size_t route_length);
+
 #ifdef __cplusplus
 }
 #endif

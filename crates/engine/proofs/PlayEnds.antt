@@ -141,6 +141,7 @@ module _ {table schedule comms log heads tails entries lens names′ : List ℕ}
         mail-room = P .mail-room;
         queue-room = P .queue-room;
         entries-most = entries-room table (P .accepted-table) schedule taken-all;
+        names-long = P .names-long;
         names-right =
             ap (λ (n : ℕ). map nameOf (take n names′)) (sym all) ∙ P .names-right ∙ ap (names (machine table) initial) whole;
       }

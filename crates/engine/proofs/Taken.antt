@@ -20,27 +20,13 @@ use Rattle.model.specs.Mutex.{queueing}
 use Rattle.model.specs.Local.{Seen, unseen, seen, first, see, pickUp, pickUpSeen, cellsAfter}
 use Rattle.model.specs.Step.{passes}
 use Rattle.engine.specs.State.{nameOf, recordOf, mailOf, queuesOf, MailRoom, QueueRoom}
-use Rattle.engine.specs.StepParts.{Steppable, Took, StepTaken, nextOf, seenFrom, CellFits, Picks, SmallPlace}
+use Rattle.engine.specs.StepParts.{Steppable, Took, StepTaken, nextOf, seenFrom, Picks, SmallPlace}
 use Rattle.engine.specs.declared.Actor.{Actor}
 use Rattle.engine.specs.declared.Stepped.{Stepped}
 use Rattle.engine.proofs.Steps.{name-byte, record-after}
 use Rattle.engine.proofs.Found.{Has, listed-has}
 
--- a Receive in range has its cell in range
-cell-fits : (b : List ℕ) (a k : ℕ) (x : Action) → InRange b a k x → CellFits x
-cell-fits b a k (Set cell value) h = tt
-cell-fits b a k (Add cell other) h = tt
-cell-fits b a k (Lesser cell other) h = tt
-cell-fits b a k (Send mailbox cell) h = tt
-cell-fits b a k (Receive mailbox cell) h = h .1
-cell-fits b a k (TestAny result list) h = tt
-cell-fits b a k (WaitAny result list) h = tt
-cell-fits b a k (Lock mutex) h = tt
-cell-fits b a k (Unlock mutex) h = tt
-cell-fits b a k (MutexTest result list) h = tt
-cell-fits b a k (MutexWait result list) h = tt
-
-has-picks : (table : List ℕ) (a : ℕ) (s : Seen) → Has (λ place n. CellFits (actionOf table a n)) s → Picks table a s
+has-picks : (table : List ℕ) (a : ℕ) (s : Seen) → Has (λ place n. n < countOf table a) s → Picks table a s
 has-picks table a unseen h = tt
 has-picks table a (seen place n v) h = h
 
@@ -88,10 +74,7 @@ module _ {table : List ℕ} {a : ℕ} {r : Actor} {comms log heads tails entries
   pub pickable : (test : ℕ → Bool) (value : ℕ → ℕ) (l : Numbers) → Listing (LowerPost table a (r .position)) l → Picks table a (first test value 1 (listed l))
   pickable test value l L =
       has-picks table a (first test value 1 (listed l))
-      (listed-has test value (λ place n. CellFits (actionOf table a n)) l (L .most)
-      (λ i h.
-      cell-fits table a (number l i) (actionOf table a (number l i))
-      (S .accepted .in-range a (number l i) (S .actor) (omega (arith, L .right i h .0, S .unfinished)))))
+      (listed-has test value (λ place n. n < countOf table a) l (L .most) (λ i h. omega (arith, L .right i h .0, S .unfinished)))
 
   -- a step that posts nothing leaves the arrays as they are
   pub quiet : (x : Action) (s : Stepped) → posts x ≡ silent

@@ -41,6 +41,7 @@ pub record Ended (table schedule comms log heads tails entries lens names′ : L
   pub mail-room : MailRoom comms log heads tails
   pub queue-room : QueueRoom entries lens
   pub entries-most : length schedule ≤ 256
+  pub names-long : length names′ ≡ 256
   pub names-right : map nameOf (take (length schedule) names′) ≡ names (machine table) initial schedule
 
 pub record PlayedRight (table schedule comms log heads tails entries lens names′ : List ℕ) (r : Played) : Type 0 where

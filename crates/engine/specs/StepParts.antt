@@ -6,7 +6,6 @@ use mathlib.Core.Bool.{Bool, true, false}
 use mathlib.Core.List.{List}
 use lib.ListN.{length, getD}
 use Rattle.table.specs.declared.Action.{Action}
-use Rattle.table.specs.declared.Action.the-variants.{Set, Add, Lesser, Send, Receive, TestAny, WaitAny, Lock, Unlock, MutexTest, MutexWait}
 use Rattle.table.specs.Format.{actorsOf, countOf}
 use Rattle.table.specs.Decode.{actionOf}
 use Rattle.table.specs.Promise.{Accepted}
@@ -44,23 +43,10 @@ pub record Steppable (table : List ℕ) (a : ℕ) (r : Actor) (comms log heads t
   pub tail-room : waits (nextOf table a r) ≡ false → (n : ℕ) → getD tails n 0 < 256
   pub join-room : (m : ℕ) → length (join (queuesOf entries lens m) a) ≤ 8
 
--- a number that a look found is an action whose cell, where it is a Receive, is in range
-abbrev pub CellFits : Action → Type 0
-CellFits (Set cell value) = Unit {0}
-CellFits (Add cell other) = Unit {0}
-CellFits (Lesser cell other) = Unit {0}
-CellFits (Send mailbox cell) = Unit {0}
-CellFits (Receive mailbox cell) = cell < 8
-CellFits (TestAny result list) = Unit {0}
-CellFits (WaitAny result list) = Unit {0}
-CellFits (Lock mutex) = Unit {0}
-CellFits (Unlock mutex) = Unit {0}
-CellFits (MutexTest result list) = Unit {0}
-CellFits (MutexWait result list) = Unit {0}
-
+-- a number that a look found is that of an action
 abbrev pub Picks : List ℕ → ℕ → Local.Seen → Type 0
 Picks table a Local.unseen = Unit {0}
-Picks table a (Local.seen place number value) = CellFits (actionOf table a number)
+Picks table a (Local.seen place number value) = number < countOf table a
 
 -- a place is from 1 to 4
 abbrev pub SmallPlace : Local.Seen → Type 0

@@ -100,7 +100,7 @@ fn is_ready(
     if table::access::actions(table, a) <= k {
         return false;
     }
-    let x = table::access::action(table, a, k);
+    let x = table::within::action(table, a, k);
     match x {
         Action::Set { cell: _, value: _ } => true,
         Action::Add { cell: _, other: _ } => true,

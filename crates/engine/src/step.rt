@@ -2,7 +2,9 @@
 ghost use mathlib.Core.Path.{_≡_};
 ghost use Prim.Native.Nat.{_+_, _<_};
 ghost use lib.ListN.{length, set};
+ghost use Rattle.table.specs.Format.{actorsOf};
 ghost use Rattle.table.specs.Decode.{actionOf};
+ghost use Rattle.table.specs.Promise.{Accepted};
 ghost use Rattle.model.specs.Local.{pickUpSeen, placeSeen, isSeen};
 ghost use Rattle.engine.specs.LookParts.{seenOf};
 ghost use Rattle.engine.specs.StepParts.{Steppable, StepTaken, nextOf, Picks, SmallPlace};
@@ -31,7 +33,7 @@ pub fn step(
         (now (comms .exit)) (now (log .exit)) (now (heads .exit)) (now (tails .exit)) (now (entries .exit)) (now (lens .exit)) s ⌝ }
 {
     let k = r.position;
-    let x = table::access::action(table, a, k);
+    let x = table::within::action(table, a, k);
     match x {
         Action::Set { cell, value } => Stepped {
             ready: true,
@@ -107,7 +109,7 @@ pub fn step(
 
 // The value of a Receive that was found goes into its cell.
 fn picked(table: &[u8], a: usize, r: Actor, seen: Seen) -> Actor
-    requires { ⌜ (length (r .cells) ≡ 8) × Picks (now table) a (seenOf seen) ⌝ }
+    requires { ⌜ (length (r .cells) ≡ 8) × Accepted (now table) × (a < actorsOf (now table)) × Picks (now table) a (seenOf seen) ⌝ }
     ensures { λ s. ⌜ (s .position ≡ r .position) × (s .cells ≡ pickUpSeen (actionOf (now (table .entry)) a) (seenOf seen) (r .cells)) ⌝ }
 {
     match seen {
@@ -117,7 +119,7 @@ fn picked(table: &[u8], a: usize, r: Actor, seen: Seen) -> Actor
             number,
             value,
         } => {
-            let x = table::access::action(table, a, number);
+            let x = table::within::action(table, a, number);
             match x {
                 Action::Receive { mailbox: _, cell } => r.put(cell, value),
                 Action::Set { cell: _, value: _ } => r,

@@ -3,6 +3,7 @@
 -- `FourCases`: the pair verdict is document 01's four cases;
 -- `ReadyMask`: the mask's bits and ones;
 -- `Demand3`: demand 3, of every table that the reader accepts;
+-- `Refusals`: a refused run changes nothing lent;
 -- `Routes`: the route call's promise can be kept.
 pub mod Upd
 pub mod Ports
@@ -15,6 +16,7 @@ pub mod Laws
 pub mod ReadyMask
 pub mod Checks
 pub mod Demand3
+pub mod Refusals
 pub mod Routes
 pub mod ReportBoundCounts
 pub mod ReportBoundNames

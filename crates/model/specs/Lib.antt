@@ -15,6 +15,7 @@ pub mod Route
 pub mod FourCases
 pub mod ReadyMask
 pub mod Demand3
+pub mod Refusals
 pub mod Bound
 pub mod Claims
 pub mod Cases

@@ -1,10 +1,16 @@
 -- The C structs' fields: `refusal` 0 where accepted, and then the answer; otherwise document 01's number with its position, and 0 elsewhere.
 -- Assumes nothing: these are definitions.
 use Prim.Native.Nat.{ℕ}
+use mathlib.Core.Path.{_≡_}
+use mathlib.Core.List.{List}
 use Rattle.model.specs.Ready.{Ending, finished, stuck, going, ReadyAnswer}
-use Rattle.model.specs.Calls.{Result, gives, refuses}
+use Rattle.model.specs.Calls.{Result, gives, refuses, PairVerdict, independent, dependent, SameVerdict, same, different}
+use Rattle.model.specs.Route.{RightRoute}
 use Rattle.order_ffi.specs.declared.OrderRun.{OrderRun}
 use Rattle.order_ffi.specs.declared.OrderReady.{OrderReady}
+use Rattle.order_ffi.specs.declared.OrderPair.{OrderPair}
+use Rattle.order_ffi.specs.declared.OrderSame.{OrderSame}
+use Rattle.order_ffi.specs.declared.OrderRoute.{OrderRoute}
 
 abbrev pub runFields : Result ℕ → OrderRun
 runFields (gives length) = record { refusal = 0; position = 0; length = length }
@@ -18,3 +24,27 @@ endingNumber going = 2
 abbrev pub readyFields : Result ReadyAnswer → OrderReady
 readyFields (gives a) = record { refusal = 0; position = 0; mask = a .mask; count = a .count; ending = endingNumber (a .ending) }
 readyFields (refuses number position) = record { refusal = number; position = position; mask = 0; count = 0; ending = 0 }
+
+abbrev pub pairNumber : PairVerdict → ℕ
+pairNumber independent = 0
+pairNumber dependent = 1
+
+abbrev pub pairFields : Result PairVerdict → OrderPair
+pairFields (gives v) = record { refusal = 0; position = 0; verdict = pairNumber v }
+pairFields (refuses number position) = record { refusal = number; position = position; verdict = 0 }
+
+abbrev pub sameNumber : SameVerdict → ℕ
+sameNumber different = 0
+sameNumber same = 1
+
+abbrev pub sameFields : Result SameVerdict → OrderSame
+sameFields (gives v) = record { refusal = 0; position = 0; verdict = sameNumber v }
+sameFields (refuses number position) = record { refusal = number; position = position; verdict = 0 }
+
+abbrev pub routeFields : Result ℕ → OrderRoute
+routeFields (gives length) = record { refusal = 0; position = 0; length = length }
+routeFields (refuses number position) = record { refusal = number; position = position; length = 0 }
+
+-- the fields of a right answer of the route call, with the buffer before and after it
+abbrev pub RightFields : (table first second before after : List ℕ) → OrderRoute → Type 0
+RightFields table first second before after r = (result : Result ℕ) × RightRoute table first second before after result × (r ≡ routeFields result)

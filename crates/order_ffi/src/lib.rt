@@ -2,13 +2,17 @@
 ghost use mathlib.Core.Path.{_≡_};
 ghost use Rattle.table.specs.Outcome.{numberOf, positionOf};
 ghost use Rattle.table.specs.Read.{readOf};
-ghost use Rattle.order_ffi.specs.Fields.{runFields, readyFields, endingNumber};
-ghost use Rattle.model.specs.Calls.{gives, refuses, runOf, readyOf};
+ghost use Rattle.order_ffi.specs.Fields.{runFields, readyFields, endingNumber, pairFields, sameFields, routeFields, RightFields};
+ghost use Rattle.model.specs.Site.{name};
+ghost use Rattle.model.specs.Calls.{gives, refuses, runOf, readyOf, pairOf, sameOf};
 ghost use Rattle.engine.specs.ReadyParts.{readinessOf, endingAs};
 use engine::ready::Ending;
 use engine::ready::Readiness;
+use order::PairAnswer;
 use order::ReadyAnswer;
+use order::RouteAnswer;
 use order::RunAnswer;
+use order::SameAnswer;
 
 // The refusal's number and position; 0 and 0 where the table is accepted.
 #[repr(C)]
@@ -135,5 +139,141 @@ fn no_answer(number: u32, position: u32) -> OrderReady
         mask: 0,
         count: 0,
         ending: 0,
+    }
+}
+
+// The refusal, or the verdict on two steps: 0 independent, 1 dependent. What does not apply is 0.
+#[repr(C)]
+pub struct OrderPair {
+    pub refusal: u32,
+    pub position: u32,
+    pub verdict: u32,
+}
+
+// Whether two steps, by their names, are dependent.
+#[no_mangle]
+pub extern "C" fn order_pair(
+    table: &[u8],
+    actor: u8,
+    action: u8,
+    actor2: u8,
+    action2: u8,
+) -> OrderPair
+    ensures { λ r. ⌜ r ≡ pairFields (pairOf (now (table .entry)) (name actor action) (name actor2 action2)) ⌝ }
+{
+    let answer = order::pair(table, actor, action, actor2, action2);
+    match answer {
+        PairAnswer::Independent => OrderPair {
+            refusal: 0,
+            position: 0,
+            verdict: 0,
+        },
+        PairAnswer::Dependent => OrderPair {
+            refusal: 0,
+            position: 0,
+            verdict: 1,
+        },
+        PairAnswer::Table(r) => OrderPair {
+            refusal: r.number(),
+            position: r.position(),
+            verdict: 0,
+        },
+        PairAnswer::NoStep => OrderPair {
+            refusal: 17,
+            position: 0,
+            verdict: 0,
+        },
+    }
+}
+
+// The refusal, or the verdict on two schedules: 0 different, 1 same. What does not apply is 0.
+#[repr(C)]
+pub struct OrderSame {
+    pub refusal: u32,
+    pub position: u32,
+    pub verdict: u32,
+}
+
+// Whether two schedules are the same.
+#[no_mangle]
+pub extern "C" fn order_same(table: &[u8], first: &[u8], second: &[u8]) -> OrderSame
+    ensures { λ r. ⌜ r ≡ sameFields (sameOf (now (table .entry)) (now (first .entry)) (now (second .entry))) ⌝ }
+{
+    let answer = order::same(table, first, second);
+    match answer {
+        SameAnswer::Same => OrderSame {
+            refusal: 0,
+            position: 0,
+            verdict: 1,
+        },
+        SameAnswer::Different => OrderSame {
+            refusal: 0,
+            position: 0,
+            verdict: 0,
+        },
+        SameAnswer::Table(r) => no_verdict(r.number(), r.position()),
+        SameAnswer::Absent(i) => no_verdict(11, i),
+        SameAnswer::Finished(i) => no_verdict(12, i),
+        SameAnswer::Waiting(i) => no_verdict(13, i),
+        SameAnswer::SecondAbsent(i) => no_verdict(14, i),
+        SameAnswer::SecondFinished(i) => no_verdict(15, i),
+        SameAnswer::SecondWaiting(i) => no_verdict(16, i),
+    }
+}
+
+fn no_verdict(number: u32, position: u32) -> OrderSame
+    ensures { λ r. ⌜ r ≡ sameFields (refuses number position) ⌝ }
+{
+    OrderSame {
+        refusal: number,
+        position,
+        verdict: 0,
+    }
+}
+
+// The refusal, or the length of the route that was written. What does not apply is 0.
+#[repr(C)]
+pub struct OrderRoute {
+    pub refusal: u32,
+    pub position: u32,
+    pub length: u32,
+}
+
+// Writes a route from the first schedule to the second: a chain of exchanges, each by its position.
+#[no_mangle]
+pub extern "C" fn order_route(
+    table: &[u8],
+    first: &[u8],
+    second: &[u8],
+    route: &mut [u16],
+) -> OrderRoute
+    ensures { λ r. ⌜ RightFields (now (table .entry)) (now (first .entry)) (now (second .entry)) (now (route .entry)) (now (route .exit)) r ⌝ }
+{
+    let answer = order::route(table, first, second, route);
+    match answer {
+        RouteAnswer::Length(n) => OrderRoute {
+            refusal: 0,
+            position: 0,
+            length: n,
+        },
+        RouteAnswer::SmallBuffer => no_route(18, 0),
+        RouteAnswer::Different => no_route(19, 0),
+        RouteAnswer::Table(r) => no_route(r.number(), r.position()),
+        RouteAnswer::Absent(i) => no_route(11, i),
+        RouteAnswer::Finished(i) => no_route(12, i),
+        RouteAnswer::Waiting(i) => no_route(13, i),
+        RouteAnswer::SecondAbsent(i) => no_route(14, i),
+        RouteAnswer::SecondFinished(i) => no_route(15, i),
+        RouteAnswer::SecondWaiting(i) => no_route(16, i),
+    }
+}
+
+fn no_route(number: u32, position: u32) -> OrderRoute
+    ensures { λ r. ⌜ r ≡ routeFields (refuses number position) ⌝ }
+{
+    OrderRoute {
+        refusal: number,
+        position,
+        length: 0,
     }
 }

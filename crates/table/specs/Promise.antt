@@ -59,5 +59,6 @@ pub record Accepted (b : List ℕ) : Type 0 where
   pub mailboxes-most : mailboxesOf b ≤ 8
   pub mutexes-most : mutexesOf b ≤ 8
   pub actions-most : (actor : ℕ) → actor < actorsOf b → countOf b actor ≤ 32
+  pub directory : 4 + 4 * actorsOf b ≤ length b
   pub inside : (actor : ℕ) → actor < actorsOf b → offsetOf b actor + 8 * countOf b actor ≤ length b
   pub in-range : (actor k : ℕ) → actor < actorsOf b → k < countOf b actor → InRange b actor k (actionOf b actor k)

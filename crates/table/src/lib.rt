@@ -9,6 +9,7 @@ pub mod access;
 mod bytes;
 mod entries;
 mod fields;
+pub mod within;
 
 // The numbers that a list names: the first `count` of the four.
 pub struct Numbers {

@@ -40,7 +40,7 @@ pub fn of_step(table: &[u8], a: usize, k: usize) -> Footprint
     requires { ⌜ Accepted (now table) × Stands (now table) (name a k) ⌝ }
     ensures { λ r. ⌜ (r .marks ≡ marksOf (now (table .entry)) (name a k)) × (r .meets ≡ meetsOf (now (table .entry)) (name a k)) ⌝ }
 {
-    let x = table::access::action(table, a, k);
+    let x = table::within::action(table, a, k);
     let posted = post(x);
     let looked = look(table, a, x);
     Footprint {

@@ -14,6 +14,7 @@ ghost use Rattle.verdict.specs.Names.{Stands};
 use table::Action;
 use table::Numbers;
 use table::access;
+use table::within;
 
 // Kind against kind, which comparison applies: 0 none, the two are independent; 1 one mailbox; 2 a listed Receive against a Send; 3 a listed Send
 // against a Receive; 4 one mutex; 5 a listed mutex against an Unlock.
@@ -160,8 +161,8 @@ pub fn dependent(table: &[u8], a: usize, k: usize, b: usize, l: usize) -> bool
     if a == b {
         return true;
     }
-    let x = access::action(table, a, k);
-    let y = access::action(table, b, l);
+    let x = within::action(table, a, k);
+    let y = within::action(table, b, l);
     let i = kind(x);
     let j = kind(y);
     let code = code(i, j);

@@ -20,7 +20,8 @@ returns c =
     looks-finished (c .before .before .before .args .table .now) (c .before .before .before .args .a) (c .before .before .before .args .r) (c .before .before .before .args .comms .now) (c .before .before .before .args .entries .now) (c .before .before .before .args .lens .now) (omega (arith, c .before .actions .ensures, c .if1 .taken))
 
 action-requires : tie.Need-action-requires
-action-requires c κs = search needs
+action-requires c κs =
+    let L = c .before .before .before .pre in (L .accepted, L .actor, omega (arith, c .before .actions .ensures, c .if1 .left))
 
 enum-told : tie.Need-enum-told
 enum-told c = search needs

@@ -2,8 +2,9 @@
 -- Assumes nothing.
 use mathlib.Core.Path.{refl, _∙_, ap, sym, subst}
 use Rattle.table.specs.Decode.{actionOf}
+use Rattle.table.specs.Promise.{InRange}
 use Rattle.engine.specs.LookParts.{seenOf}
-use Rattle.engine.specs.StepParts.{Picks, CellFits}
+use Rattle.engine.specs.StepParts.{Picks}
 use Rattle.engine.proofs.Steps.{picks, picks-none}
 use borrow.Author.Needs.{needs}
 use Rattle.engine.proofs.step.picked.Statement.{statement}
@@ -16,15 +17,18 @@ enum-known-seen : tie.Need-enum-known-seen
 enum-known-seen c = search needs
 
 action-requires : tie.Need-action-requires
-action-requires c κs = search needs
+action-requires c κs =
+    let P = c .before .before .before .before .pre in
+    (P .1, P .2, subst (λ s. Picks (c .before .before .before .before .args .table .now) (c .before .before .before .before .args .a) (seenOf s)) (c .before .seen .given .1) (P .3))
 
 enum-known-x : tie.Need-enum-known-x
 enum-known-x c = search needs
 
 put-requires : tie.Need-put-requires
 put-requires c κs =
-    let fits = subst (λ s. Picks (c .before .before .before .before .before .before .before .before .args .table .now) (c .before .before .before .before .before .before .before .before .args .a) (seenOf s)) (c .before .before .before .before .before .seen .given .1) (c .before .before .before .before .before .before .before .before .pre .1) in
-    (c .before .before .before .before .before .before .before .before .pre .0, subst CellFits (sym (c .before .before .before .action .ensures) ∙ c .before .x .given .1) fits)
+    let P = c .before .before .before .before .before .before .before .before .pre in
+    let below = subst (λ s. Picks (c .before .before .before .before .before .before .before .before .args .table .now) (c .before .before .before .before .before .before .before .before .args .a) (seenOf s)) (c .before .before .before .before .before .seen .given .1) (P .3) in
+    (P .0, subst (InRange (c .before .before .before .before .before .before .before .before .args .table .now) (c .before .before .before .before .before .before .before .before .args .a) _) (sym (c .before .before .before .action .ensures) ∙ c .before .x .given .1) (P .1 .in-range _ _ (P .2) below) .1)
 
 enum-told-2 : tie.Need-enum-told-2
 enum-told-2 c = search needs

@@ -21,7 +21,7 @@ use Rattle.engine.proofs.step.step.Statement.{statement}
 use Rattle.engine.proofs.step.step.Tie as tie
 
 action-requires : tie.Need-action-requires
-action-requires c κs = search needs
+action-requires c κs = let S = c .before .pre in (S .accepted, S .actor, S .unfinished)
 
 enum-known-x : tie.Need-enum-known-x
 enum-known-x c = search needs
@@ -117,7 +117,7 @@ communications-requires c κs =
 
 picked-requires : tie.Need-picked-requires
 picked-requires c κs =
-    (c .before .before .before .before .before .before .before .pre .eight, subst (Picks (c .before .before .before .before .before .before .before .args .table .now) (c .before .before .before .before .before .before .before .args .a)) (sym (c .communications .ensures)) (pickable (c .before .before .before .before .before .before .before .pre) _ _ _ ((ranged (c .before .before .before .before .before .before .before .pre) _ (sym (c .before .before .before .before .before .action .ensures) ∙ c .before .before .before .x6 .given .1)) .1)))
+    (c .before .before .before .before .before .before .before .pre .eight, c .before .before .before .before .before .before .before .pre .accepted, c .before .before .before .before .before .before .before .pre .actor, subst (Picks (c .before .before .before .before .before .before .before .args .table .now) (c .before .before .before .before .before .before .before .args .a)) (sym (c .communications .ensures)) (pickable (c .before .before .before .before .before .before .before .pre) _ _ _ ((ranged (c .before .before .before .before .before .before .before .pre) _ (sym (c .before .before .before .before .before .action .ensures) ∙ c .before .before .before .x6 .given .1)) .1)))
 
 told-requires : tie.Need-told-requires
 told-requires c κs =
@@ -143,7 +143,7 @@ is-seen-requires c κs = search needs
 
 picked-requires-2 : tie.Need-picked-requires-2
 picked-requires-2 c κs =
-    (c .before .before .before .before .before .before .before .before .pre .eight, subst (Picks (c .before .before .before .before .before .before .before .before .args .table .now) (c .before .before .before .before .before .before .before .before .args .a)) (sym (c .before .communications2 .ensures)) (pickable (c .before .before .before .before .before .before .before .before .pre) _ _ _ ((ranged (c .before .before .before .before .before .before .before .before .pre) _ (sym (c .before .before .before .before .before .before .action .ensures) ∙ c .before .before .before .before .x7 .given .1)) .1)))
+    (c .before .before .before .before .before .before .before .before .pre .eight, c .before .before .before .before .before .before .before .before .pre .accepted, c .before .before .before .before .before .before .before .before .pre .actor, subst (Picks (c .before .before .before .before .before .before .before .before .args .table .now) (c .before .before .before .before .before .before .before .before .args .a)) (sym (c .before .communications2 .ensures)) (pickable (c .before .before .before .before .before .before .before .before .pre) _ _ _ ((ranged (c .before .before .before .before .before .before .before .before .pre) _ (sym (c .before .before .before .before .before .before .action .ensures) ∙ c .before .before .before .before .x7 .given .1)) .1)))
 
 told-requires-2 : tie.Need-told-requires-2
 told-requires-2 c κs =

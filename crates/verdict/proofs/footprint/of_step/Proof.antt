@@ -13,7 +13,7 @@ use Rattle.verdict.proofs.footprint.of_step.Statement.{statement}
 use Rattle.verdict.proofs.footprint.of_step.Tie as tie
 
 action-requires : tie.Need-action-requires
-action-requires c κs = search needs
+action-requires c κs = let p = c .before .pre in (p .0, p .1 .0, p .1 .1)
 
 post-requires : tie.Need-post-requires
 post-requires c κs =

@@ -16,10 +16,10 @@ returns c =
     sym (depends-own (x .table .now) (name (x .a) (x .k)) (name (x .b) (x .l)) (c .if1 .taken))
 
 action-requires : tie.Need-action-requires
-action-requires c κs = search needs
+action-requires c κs = let p = c .before .before .pre in (p .0, p .1 .0, p .1 .1)
 
 action-requires-2 : tie.Need-action-requires-2
-action-requires-2 c κs = search needs
+action-requires-2 c κs = let p = c .before .before .before .pre in (p .0, p .2 .0, p .2 .1)
 
 kind-requires : tie.Need-kind-requires
 kind-requires c κs = search needs

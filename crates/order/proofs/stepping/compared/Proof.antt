@@ -1,0 +1,88 @@
+-- `order::stepping::compared` meets its contract: a table that is refused, or a first schedule that halts early, decides; after an accepted one the second
+-- follows.
+-- Assumes nothing.
+use mathlib.Core.Path.{_≡_, refl, _∙_, ap, sym}
+use Rattle.table.specs.Read.{readOf}
+use Rattle.table.specs.Answer.{outcome}
+use Rattle.table.proofs.Readings.{refusing}
+use Rattle.model.specs.Schedule.{firstNumbers}
+use Rattle.engine.specs.PlayParts.{haltOf}
+use Rattle.order.proofs.Outcomes.{then-refused}
+use Rattle.order.proofs.SameOutcomes.{compared-refused, first-refused}
+use borrow.Author.Needs.{needs}
+use Rattle.order.proofs.stepping.compared.Statement.{statement}
+use Rattle.order.proofs.stepping.compared.Tie as tie
+
+read-requires : tie.Need-read-requires
+read-requires c κs = search needs
+
+enum-told : tie.Need-enum-told
+enum-told c = search needs
+
+returns : tie.Need-returns
+returns c =
+    compared-refused refl (then-refused (readOf (c .before .before .before .before .before .args .table .now)) _ _ _ (sym (c .before .read .ensures .0) ∙ refusing (c .before .read .result) (c .match .keys2)))
+
+trace-of-requires : tie.Need-trace-of-requires
+trace-of-requires c κs =
+    (c .before .before .before .read .ensures .1 (c .before .enum-told .given .1), c .before .before .before .before .before .before .before .pre .0)
+
+enum-told-2 : tie.Need-enum-told-2
+enum-told-2 c = search needs
+
+follow-requires : tie.Need-follow-requires
+follow-requires c κs =
+    let t = c .before .before .before .before .trace-of .ensures in
+    let e = c .before .before .enum-told2 .given .1 in
+    record {
+      read = sym (c .before .before .before .before .before .before .before .before .read .ensures .0) ∙ ap outcome (c .before .before .before .before .before .before .enum-told .given .1);
+      promise = c .before .before .before .before .before .before .before .before .read .ensures .1 (c .before .before .before .before .before .before .enum-told .given .1);
+      first-fine = sym (t .halted firstNumbers) ∙ ap (haltOf firstNumbers) e;
+      first-kept = t .kept e;
+      room = c .before .before .before .before .before .before .before .before .before .before .before .before .pre .1;
+    }
+
+enum-known-halt : tie.Need-enum-known-halt
+enum-known-halt c = search needs
+
+enum-known-halt-2 : tie.Need-enum-known-halt-2
+enum-known-halt-2 c = search needs
+
+enum-known-halt-3 : tie.Need-enum-known-halt-3
+enum-known-halt-3 c = search needs
+
+returns-2 : tie.Need-returns-2
+returns-2 c = search needs
+
+returns-3 : tie.Need-returns-3
+returns-3 c =
+    first-refused refl (sym (c .before .before .before .before .before .before .before .read .ensures .0) ∙ ap outcome (c .before .before .before .before .before .enum-told .given .1))
+    (sym (c .before .before .before .trace-of .ensures .halted firstNumbers) ∙ ap (haltOf firstNumbers) (c .before .halt .given .1))
+
+returns-4 : tie.Need-returns-4
+returns-4 c =
+    first-refused refl (sym (c .before .before .before .before .before .before .before .read .ensures .0) ∙ ap outcome (c .before .before .before .before .before .enum-told .given .1))
+    (sym (c .before .before .before .trace-of .ensures .halted firstNumbers) ∙ ap (haltOf firstNumbers) (c .before .halt2 .given .1))
+
+returns-5 : tie.Need-returns-5
+returns-5 c =
+    first-refused refl (sym (c .before .before .before .before .before .before .before .read .ensures .0) ∙ ap outcome (c .before .before .before .before .before .enum-told .given .1))
+    (sym (c .before .before .before .trace-of .ensures .halted firstNumbers) ∙ ap (haltOf firstNumbers) (c .before .halt3 .given .1))
+
+pub compared-spec : {M : Type 1} → statement M
+compared-spec =
+    tie.close
+    (tie.spec
+    read-requires
+    enum-told
+    returns
+    trace-of-requires
+    enum-told-2
+    follow-requires
+    enum-known-halt
+    enum-known-halt-2
+    enum-known-halt-3
+    returns-2
+    returns-3
+    returns-4
+    returns-5)

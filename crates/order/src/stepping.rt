@@ -1,0 +1,102 @@
+// What the calls on two schedules share: each schedule is stepped in arrays of its own, and only the names of its steps are kept.
+ghost use mathlib.Core.Path.{_≡_};
+ghost use lib.ListN.{length};
+ghost use Rattle.table.specs.Promise.{Accepted};
+ghost use Rattle.order.specs.Traces.{Traced, Following, Judged, ComparedRight};
+use crate::SameAnswer;
+use engine::play;
+use engine::play::Halt;
+use table::Reading;
+use verdict::same;
+
+// Reads the table, steps the first schedule whole and then the second, and judges. `names` and `others` are left with the names of the
+// steps that the two run, where they are the same.
+pub fn compared(
+    table: &[u8],
+    first: &[u8],
+    second: &[u8],
+    names: &mut [u8; 256],
+    others: &mut [u8; 256],
+) -> SameAnswer
+    requires { ⌜ (length (now names) ≡ 256) × (length (now others) ≡ 256) ⌝ }
+    ensures { λ r. ⌜ ComparedRight (now (table .entry)) (now (first .entry)) (now (second .entry)) (now (names .exit)) (now (others .exit)) r ⌝ }
+{
+    let reading = table::read(table);
+    let Reading::Accepted = reading else {
+        return SameAnswer::Table(reading);
+    };
+    let halt = trace_of(table, first, names);
+    match halt {
+        Halt::End => follow(table, first, second, names, others),
+        Halt::Absent(i) => SameAnswer::Absent(i),
+        Halt::Finished(i) => SameAnswer::Finished(i),
+        Halt::Waiting(i) => SameAnswer::Waiting(i),
+    }
+}
+
+// Steps the second schedule after a first that is accepted, and judges.
+fn follow(
+    table: &[u8],
+    first: &[u8],
+    second: &[u8],
+    names: &[u8; 256],
+    others: &mut [u8; 256],
+) -> SameAnswer
+    requires { ⌜ Following (now table) (now first) (now names) (now others) ⌝ }
+    ensures { λ r. ⌜ ComparedRight (now (table .entry)) (now (first .entry)) (now (second .entry)) (now (names .entry)) (now (others .exit)) r ⌝ }
+{
+    let halt = trace_of(table, second, others);
+    match halt {
+        Halt::End => judge(table, first, second, names, others),
+        Halt::Absent(i) => SameAnswer::SecondAbsent(i),
+        Halt::Finished(i) => SameAnswer::SecondFinished(i),
+        Halt::Waiting(i) => SameAnswer::SecondWaiting(i),
+    }
+}
+
+// The verdict on two accepted schedules, by their lengths and the names of their steps.
+fn judge(
+    table: &[u8],
+    first: &[u8],
+    second: &[u8],
+    names: &[u8; 256],
+    others: &[u8; 256],
+) -> SameAnswer
+    requires { ⌜ Judged (now table) (now first) (now second) (now names) (now others) ⌝ }
+    ensures { λ r. ⌜ ComparedRight (now (table .entry)) (now (first .entry)) (now (second .entry)) (now (names .entry)) (now (others .entry)) r ⌝ }
+{
+    let m = first.len();
+    if m != second.len() {
+        return SameAnswer::Different;
+    }
+    if same::same(table, names, others, m) {
+        SameAnswer::Same
+    } else {
+        SameAnswer::Different
+    }
+}
+
+// Steps a schedule from a fresh site, as far as the first entry that is refused. `names` is left with the names of its steps, where it is accepted.
+fn trace_of(table: &[u8], schedule: &[u8], names: &mut [u8; 256]) -> Halt
+    requires { ⌜ Accepted (now table) × (length (now names) ≡ 256) ⌝ }
+    ensures { λ r. ⌜ Traced (now (table .entry)) (now (schedule .entry)) (now (names .exit)) r ⌝ }
+{
+    let mut comms = [0u64; 256];
+    let mut log = [0u8; 4096];
+    let mut heads = [0usize; 16];
+    let mut tails = [0usize; 16];
+    let mut entries = [0u8; 64];
+    let mut lens = [0usize; 8];
+    let played = play::play(
+        table,
+        schedule,
+        &mut comms,
+        &mut log,
+        &mut heads,
+        &mut tails,
+        &mut entries,
+        &mut lens,
+        names,
+    );
+    played.halt
+}
