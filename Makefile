@@ -1,21 +1,34 @@
-# make run    the main job: for now, the proved calls compared with the reference
-# make test   everything: layout, the Rust side, the comparison, then every proof and must-fail edit
-# make bench  the proved engine's times as ratios to the reference's
+# make run     the main job: for now, the proved calls compared with the reference
+# make test    everything: layout, the Rust side, the calls from C, the comparison, then every proof and must-fail edit
+# make bench   the proved engine's times and instructions against the reference's; writes docs/BENCHMARK.md
+# make soak    the comparison from a random seed, MINUTES=n minutes long
 
 CARGO := cd rust && cargo
 LOCKED := --offline --locked
+MINUTES := 10
 
-.PHONY: run test bench lib layout rust proofs clean
+WARNINGS := -Wall -Wextra -Wpedantic -Werror -Wshadow -Wconversion -Wstrict-prototypes -Wmissing-prototypes -Wcast-qual
+CFLAGS := -std=c11 -O1 $(WARNINGS)
+
+.PHONY: run test bench soak lib layout rust c-test guarded proofs clean
 .NOTPARALLEL:
 
 run: lib
 	$(CARGO) run $(LOCKED) --release --quiet --bin compare
 
 # The proofs come last: `rt ci` removes target/, and with it the static library, and its last line is the verdict.
-test: layout rust run proofs
+test: layout rust c-test run guarded proofs
+
+# Every lent buffer at an inaccessible page.
+guarded: lib
+	$(CARGO) run $(LOCKED) --release --quiet --bin guarded
 
 bench: lib
-	$(CARGO) run $(LOCKED) --release --quiet --bin bench
+	$(CARGO) build $(LOCKED) --profile speed --quiet --bin bench --bin count
+	rust/target/speed/bench docs/BENCHMARK.md
+
+soak: lib
+	$(CARGO) run $(LOCKED) --release --quiet --bin soak -- --minutes $(MINUTES)
 
 # The proved calls, as target/staticlib/liborder_ffi.a.
 lib:
@@ -28,6 +41,12 @@ layout:
 rust: lib
 	$(CARGO) clippy $(LOCKED) --quiet --workspace --all-targets -- -D warnings
 	$(CARGO) test $(LOCKED) --quiet --workspace
+	$(CARGO) doc $(LOCKED) --quiet --workspace --no-deps --config 'build.rustdocflags = ["-D", "warnings"]'
+
+c-test: lib
+	mkdir -p target/c-test
+	$(CC) $(CFLAGS) -Iinclude tests/c/calls.c target/staticlib/liborder_ffi.a -o target/c-test/calls
+	target/c-test/calls
 
 proofs:
 	rt ci

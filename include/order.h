@@ -1,8 +1,9 @@
 /* The order engine's calls for C. The library is target/staticlib/liborder_ffi.a, for x86-64 Linux.
  *
- * A slice is passed as a pointer and a number of elements. A call reads no byte outside the slices
- * that it is lent, keeps no pointer and has no state. A pointer is never null, also not where the
- * length is 0.
+ * A slice is passed as a pointer and a number of elements. A call reads and writes no byte outside
+ * the slices that it is lent, and writes only the report and the route; it keeps no pointer and has
+ * no state. A pointer is never null, also not where the length is 0, and is aligned for its type.
+ * Slices that are written share no byte with another.
  *
  * In every answer `refusal` is 0 where the call accepted, otherwise the number of the refusal, and
  * `position` is its position; the other fields are then 0. A call that refuses changes nothing that
@@ -72,36 +73,38 @@ typedef struct {
 /* Which actors are ready at the end of a schedule from a fresh site. Refusals 1 to 9, then 11 to 13, as for order_run. */
 OrderReady order_ready(const uint8_t *table, size_t table_length, const uint8_t *schedule, size_t schedule_length);
 
-/* The verdict on two steps: 0 independent, 1 dependent. */
+/* The pair verdict: `verdict` is 0 independent, 1 dependent. */
 typedef struct {
     uint32_t refusal;
     uint32_t position;
     uint32_t verdict;
 } OrderPair;
 
-/* Whether two steps are dependent, each named by its actor and the number of its action.
+/* Whether two steps, each named by its actor and action, are dependent, judged from the table alone.
  *
- *   refusal  position  what is wrong, in this order
- *   1 to 9   as above  the table is refused
- *   17       0         a name is not in the table
+ *   refusal  position       what is wrong, in this order
+ *   1 to 9   as above       the table is refused
+ *   17       0              one of the steps, or both, is not in the table
  */
-OrderPair order_pair(const uint8_t *table, size_t table_length, uint8_t actor, uint8_t action, uint8_t actor2,
-                     uint8_t action2);
+OrderPair order_pair(const uint8_t *table, size_t table_length, uint8_t first_actor, uint8_t first_action,
+                     uint8_t second_actor, uint8_t second_action);
 
-/* The verdict on two schedules: 0 different, 1 same. */
+/* The same verdict: `verdict` is 0 different, 1 same. */
 typedef struct {
     uint32_t refusal;
     uint32_t position;
     uint32_t verdict;
 } OrderSame;
 
-/* Whether a chain of exchanges of independent neighbouring steps turns the first schedule into the second. The first is
- * stepped whole before the second. Accepted schedules of different lengths are different.
+/* Whether exchanges of independent neighbours turn the first schedule into the second. Schedules of
+ * different lengths are different.
  *
- *   refusal   position       what is wrong, in this order
- *   1 to 9    as above       the table is refused
- *   11 to 13  entry's index  the first schedule is refused, as for order_run
- *   14 to 16  entry's index  the second schedule is refused likewise: no such actor, finished, not ready
+ *   refusal  position       what is wrong, in this order
+ *   1 to 9   as above       the table is refused
+ *   11       entry's index  an entry of the first schedule names no actor
+ *   12       entry's index  an entry of the first schedule names a finished actor
+ *   13       entry's index  an entry of the first schedule names an actor that is not ready
+ *   14 to 16 entry's index  likewise, of the second schedule
  */
 OrderSame order_same(const uint8_t *table, size_t table_length, const uint8_t *first, size_t first_length,
                      const uint8_t *second, size_t second_length);
@@ -113,15 +116,14 @@ typedef struct {
     uint32_t length;
 } OrderRoute;
 
-/* Writes a route from the first schedule to the second into the first entries of `route`; the entries after it stay as they
- * were. Each position k exchanges entries k and k + 1 of what the positions before it left, which are independent steps;
- * replaying them all turns the first schedule into the second. `route_length` is the number of entries of `route`, and m the
- * number of entries of a schedule.
+/* Writes a route from the first schedule to the second into the first entries of `route`: positions k,
+ * each exchanging entries k and k + 1 of what the ones before it left. The entries after it stay as they
+ * were. `route_length` counts entries, not bytes; a route of schedules of m entries wants m (m - 1) / 2.
  *
- *   refusal   position       what is wrong, in this order
- *   1 to 16   as above       the table or a schedule is refused, as for order_same
- *   19        0              the schedules are different
- *   18        0              the route buffer has under m * (m - 1) / 2 entries
+ *   refusal  position       what is wrong, in this order
+ *   1 to 16  as above       as for order_same
+ *   19       0              the schedules are different: there is no route
+ *   18       0              the route buffer has under m (m - 1) / 2 entries
  */
 OrderRoute order_route(const uint8_t *table, size_t table_length, const uint8_t *first, size_t first_length,
                        const uint8_t *second, size_t second_length, uint16_t *route, size_t route_length);

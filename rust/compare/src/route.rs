@@ -1,13 +1,42 @@
 //! The two routes compared. Which chain is taken is free, so that the proved engine's is replayed
 //! by the reference; refusals and what is left of the lent buffer must agree.
 
-use crate::difference::{Answer, Difference, of_engine, of_reference};
+use crate::answer::Answer;
+use crate::call::{Asked, Call, no_sweep};
+use crate::input::{Input, Lent, Part};
 use crate::rng::Rng;
-use crate::same::count;
 use crate::tally::{Demands, Tally};
 use crate::twins::Twins;
 use reference::route::room;
 use reference::{check, replay, replay_stepping};
+
+/// The exchange route.
+pub const CALL: Call = Call {
+    name: "route",
+    about: "the route, replayed, and every entry lent",
+    parts: &[Part::First, Part::Second, Part::Route],
+    refusals: &[1, 2, 3, 4, 5, 6, 7, 8, 9, 11, 12, 13, 14, 15, 16, 19, 18],
+    cases: 130_000,
+    next,
+    sweep: no_sweep,
+    engine: |lent| {
+        let Lent {
+            table,
+            first,
+            second,
+            route,
+            ..
+        } = lent;
+        order_engine::fields::route(table, first, second, route).into()
+    },
+    reference: |lent: Lent| {
+        let answer = reference::route(lent.table, lent.first, lent.second, lent.route);
+        answer.map(|length| [length as u32]).into()
+    },
+    mistake,
+    note,
+    shortfalls,
+};
 
 /// The longest schedules for which every schedule on the way is stepped anew.
 const STEPPED: usize = 12;
@@ -19,21 +48,7 @@ const FAR: &str = "routes of 1,000 exchanges or more";
 const SHORT_AND_DIFFERENT: &str = "refused 19 with too little room";
 const NO_ROOM: &str = "accepted with no room lent";
 
-/// Compares the routes on `cases` tables, pairs of schedules and lent buffers.
-pub fn compare(seed: u64, cases: usize) -> Result<Tally, Box<Difference>> {
-    let mut rng = Rng::new(seed);
-    let mut tally = Tally::default();
-    let mut room = Room::default();
-    for _ in 0..cases {
-        let twins = Twins::any(&mut rng);
-        room.lend(&mut rng, twins.first.len());
-        case(&twins, &mut room, &mut tally)?;
-    }
-    Ok(tally)
-}
-
-/// What a comparison should have met and did not, in words; empty where it met everything.
-pub fn shortfalls(tally: &Tally) -> Vec<String> {
+fn shortfalls(tally: &Tally) -> Vec<String> {
     let pairs = tally.hits(0) + tally.hits(18) + tally.hits(19);
     Demands::of(tally)
         .least("pairs of schedules".to_string(), pairs, 100_000)
@@ -47,73 +62,71 @@ pub fn shortfalls(tally: &Tally) -> Vec<String> {
         .short()
 }
 
-/// Both routes on one input.
-fn case(twins: &Twins, room: &mut Room, tally: &mut Tally) -> Result<(), Box<Difference>> {
+/// Any table and two schedules, and a buffer of any length, mostly enough.
+fn next(rng: &mut Rng, input: &mut Input) {
     let Twins {
         table,
         first,
         second,
-    } = twins;
-    let Room { lent, ours, theirs } = room;
-    let engine = of_engine(order_engine::route(table, first, second, ours));
-    let reference = of_reference(reference::route(table, first, second, theirs));
-    let mistake = match (engine, reference) {
-        (Ok(length), Ok(_)) => wrong(twins, length, ours, lent),
-        _ if engine != reference => Some("the answers differ".to_string()),
-        _ if ours != lent => Some("a refused call wrote".to_string()),
-        _ => None,
-    };
-    if let Some(mistake) = mistake {
-        let written = engine.map_or(0, |length| length.min(ours.len()));
-        let difference = Difference::on(table)
-            .schedule("first schedule", first)
-            .schedule("second schedule", second)
-            .with("room", lent.len())
-            .answers(&engine, &reference)
-            .with("route", format!("{:?}", &ours[..written]))
-            .with("mistake", mistake);
-        return Err(Box::new(difference));
+    } = Twins::any(rng);
+    lend(rng, &mut input.route, first.len());
+    (input.table, input.first, input.second) = (table, first, second);
+}
+
+/// What is wrong with the answers, or with the route.
+fn mistake(asked: &Asked) -> Option<String> {
+    let (engine, reference) = (asked.engine, asked.reference);
+    if engine.accepted() != reference.accepted() || !engine.accepted() && engine != reference {
+        return Some("the answers differ".to_string());
     }
-    count(tally, &reference, first, second);
-    note(tally, twins, engine, reference, lent.len());
-    Ok(())
+    if !engine.accepted() {
+        return None;
+    }
+    let length = engine.values[0];
+    let accepted = Answer {
+        values: [length, 0, 0],
+        ..reference
+    };
+    if engine != accepted {
+        return Some("a field that has to be 0 is not".to_string());
+    }
+    wrong(asked, length as usize)
 }
 
 /// What is wrong with a route of `length` entries, if anything.
-fn wrong(twins: &Twins, length: usize, written: &[u16], lent: &[u16]) -> Option<String> {
-    let Twins {
+fn wrong(asked: &Asked, length: usize) -> Option<String> {
+    let Input {
         table,
         first,
         second,
-    } = twins;
+        route: lent,
+        ..
+    } = asked.input;
     if length > room(first.len()) {
         return Some("the route is too long".to_string());
     }
-    let (route, rest) = written.split_at(length);
+    let (route, rest) = asked.ours.route.split_at(length);
     if let Some(at) = (0..rest.len()).find(|&at| rest[at] != lent[length + at]) {
         return Some(format!("entry {} after the route changed", length + at));
     }
-    let table = check(table).ok()?;
-    let steps = if first.len() <= STEPPED {
-        replay_stepping
-    } else {
-        replay
+    let table = check(table).expect("the table is accepted");
+    let replayed = match first.len() {
+        ..=STEPPED => replay_stepping(&table, first, route),
+        _ => replay(&table, first, route),
     };
-    match steps(&table, first, route) {
-        Err(mistake) => Some(format!("entry {} is no exchange", mistake.index)),
-        Ok(reached) if reached != *second => Some(format!("the route leads to {reached:?}")),
+    match replayed {
+        Err(mistake) => Some(format!("entry {} is no exchange: {route:?}", mistake.index)),
+        Ok(reached) if reached != *second => {
+            Some(format!("the route {route:?} leads to {reached:?}"))
+        }
         Ok(_) => None,
     }
 }
 
-fn note(
-    tally: &mut Tally,
-    twins: &Twins,
-    engine: Answer<usize>,
-    reference: Answer<usize>,
-    room_lent: usize,
-) {
-    if let (Ok(ours), Ok(least)) = (engine, reference) {
+fn note(tally: &mut Tally, asked: &Asked) {
+    let lent = asked.input.route.len();
+    if asked.reference.accepted() {
+        let (ours, least) = (asked.engine.values[0], asked.reference.values[0]);
         tally.note(if ours == least { SHORTEST } else { LONGER });
         if least == 0 {
             tally.note(EMPTY);
@@ -121,41 +134,28 @@ fn note(
         if least >= 1_000 {
             tally.note(FAR);
         }
-        if room_lent == 0 {
+        if lent == 0 {
             tally.note(NO_ROOM);
         }
     }
-    if reference == Err((19, 0)) && room_lent < room(twins.first.len()) {
+    if asked.reference.refusal == 19 && lent < room(asked.input.first.len()) {
         tally.note(SHORT_AND_DIFFERENT);
     }
 }
 
-/// What is lent to a call, and what each engine makes of it.
-#[derive(Default)]
-struct Room {
-    lent: Vec<u16>,
-    ours: Vec<u16>,
-    theirs: Vec<u16>,
-}
-
-impl Room {
-    /// Lends entries to tell by whether they were written: none is an exchange of any schedule.
-    /// Mostly there is room enough for schedules of `length` entries.
-    fn lend(&mut self, rng: &mut Rng, length: usize) {
-        // No schedule of more than 256 entries is accepted.
-        let enough = room(length.min(256));
-        let entries = match rng.below(16) {
-            0 => enough.saturating_sub(1),
-            1 => rng.below(enough + 1),
-            2..9 => enough,
-            9 => enough + 1,
-            _ => enough + rng.below(40),
-        };
-        let salt = rng.bits() as u16 & 0x3fff;
-        self.lent.clear();
-        self.lent
-            .extend((0..entries).map(|at| 0x8000 | (salt + at as u16 % 0x4000)));
-        self.ours.clone_from(&self.lent);
-        self.theirs.clone_from(&self.lent);
-    }
+/// Lends entries to tell by whether they were written: none is an exchange of any schedule. Mostly
+/// there is room enough for schedules of `length` entries.
+fn lend(rng: &mut Rng, route: &mut Vec<u16>, length: usize) {
+    // No schedule of more than 256 entries is accepted.
+    let enough = room(length.min(256));
+    let entries = match rng.below(16) {
+        0 => enough.saturating_sub(1),
+        1 => rng.below(enough + 1),
+        2..9 => enough,
+        9 => enough + 1,
+        _ => enough + rng.below(40),
+    };
+    let salt = rng.bits() as u16 & 0x3fff;
+    route.clear();
+    route.extend((0..entries).map(|at| 0x8000 | (salt + at as u16 % 0x4000)));
 }

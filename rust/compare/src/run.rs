@@ -1,26 +1,32 @@
 //! The two runs compared: the answer and every byte lent.
 
-use crate::difference::{Difference, number, of_engine, of_reference};
+use crate::call::{Asked, Call, no_sweep, unequal};
+use crate::input::{Input, Lent, Part};
 use crate::rng::Rng;
 use crate::steps::Steps;
 use crate::tally::{Demands, Tally};
 use reference::REPORT_ROOM;
 
-/// Compares the runs on `cases` tables, schedules and lent buffers.
-pub fn compare(seed: u64, cases: usize) -> Result<Tally, Box<Difference>> {
-    let mut rng = Rng::new(seed);
-    let mut tally = Tally::default();
-    for _ in 0..cases {
-        let steps = Steps::any(&mut rng);
-        let room = room(&mut rng);
-        let lent = pattern(&mut rng, room);
-        case(&steps, lent, &mut tally)?;
-    }
-    Ok(tally)
-}
+/// The run.
+pub const CALL: Call = Call {
+    name: "run",
+    about: "the run and every byte lent",
+    parts: &[Part::Schedule, Part::Report],
+    refusals: &[10, 1, 2, 3, 4, 5, 6, 7, 8, 9, 11, 12, 13],
+    cases: 240_000,
+    next,
+    sweep: no_sweep,
+    engine: |lent| order_engine::fields::run(lent.table, lent.first, lent.report).into(),
+    reference: |lent: Lent| {
+        let answer = reference::run(lent.table, lent.first, lent.report);
+        answer.map(|length| [length as u32]).into()
+    },
+    mistake: unequal,
+    note,
+    shortfalls,
+};
 
-/// What a comparison should have met and did not, in words; empty where it met everything.
-pub fn shortfalls(tally: &Tally) -> Vec<String> {
+fn shortfalls(tally: &Tally) -> Vec<String> {
     Demands::of(tally)
         .total("runs", 200_000)
         .accepted(80_000)
@@ -33,37 +39,26 @@ pub fn shortfalls(tally: &Tally) -> Vec<String> {
         .short()
 }
 
-/// Both runs on one input.
-fn case(steps: &Steps, lent: Vec<u8>, tally: &mut Tally) -> Result<(), Box<Difference>> {
-    let Steps { table, schedule } = steps;
-    let (mut ours, mut theirs) = (lent.clone(), lent);
-    let engine = of_engine(order_engine::run(table, schedule, &mut ours));
-    let reference = of_reference(reference::run(table, schedule, &mut theirs));
-    if engine != reference || ours != theirs {
-        let difference = Difference::on(table)
-            .schedule("schedule", schedule)
-            .with("room", ours.len())
-            .answers(&engine, &reference)
-            .buffers(&ours, &theirs);
-        return Err(Box::new(difference));
-    }
-    tally.count(number(&reference));
-    match reference {
-        Ok(length) => note(table, schedule, &theirs[..length], tally),
-        Err((number @ 11..=13, index)) => tally.place(number, index, schedule.len()),
-        Err(_) => {}
-    }
-    Ok(())
+/// Any table and schedule, and a buffer of any length, mostly enough.
+fn next(rng: &mut Rng, input: &mut Input) {
+    let Steps { table, schedule } = Steps::any(rng);
+    (input.table, input.first) = (table, schedule);
+    let room = room(rng);
+    fill(rng, &mut input.report, room);
 }
 
 /// Notes what an accepted run was like.
-fn note(table: &[u8], schedule: &[u8], report: &[u8], tally: &mut Tally) {
-    if schedule.len() == 256 {
+fn note(tally: &mut Tally, asked: &Asked) {
+    if !asked.reference.accepted() {
+        return;
+    }
+    let Input { table, first, .. } = asked.input;
+    if first.len() == 256 {
         tally.note("256 entries accepted");
     }
     let actors = usize::from(table[1]);
     let actions: usize = (0..actors).map(|a| usize::from(table[6 + 4 * a])).sum();
-    let mut rest = &report[33 * actors + 8 * actions..];
+    let mut rest = &asked.theirs.report[33 * actors + 8 * actions..];
     let (mut mailbox, mut mutex) = (false, false);
     for _ in 0..table[2] {
         let length = usize::from(u16::from_le_bytes([rest[0], rest[1]]));
@@ -99,12 +94,13 @@ fn room(rng: &mut Rng) -> usize {
 }
 
 /// Bytes to tell by whether they were written.
-fn pattern(rng: &mut Rng, length: usize) -> Vec<u8> {
+fn fill(rng: &mut Rng, report: &mut Vec<u8>, length: usize) {
     let mut byte = rng.byte();
     let step = rng.byte() | 1;
     let next = || {
         byte = byte.wrapping_add(step);
         byte
     };
-    std::iter::repeat_with(next).take(length).collect()
+    report.clear();
+    report.extend(std::iter::repeat_with(next).take(length));
 }

@@ -1,11 +1,30 @@
 //! The two same verdicts compared, on small tables also with a search through all chains.
 
-use crate::difference::{Answer, Difference, number, of_engine, of_reference};
+use crate::call::{Asked, Call, no_sweep, unequal};
+use crate::input::{Input, Lent, Part};
 use crate::rng::Rng;
 use crate::tally::{Demands, Tally};
 use crate::twins::Twins;
-use order_engine::SameVerdict;
 use reference::{chain_exists, check};
+
+/// The same verdict.
+pub const CALL: Call = Call {
+    name: "same",
+    about: "the same verdict",
+    parts: &[Part::First, Part::Second],
+    refusals: &[1, 2, 3, 4, 5, 6, 7, 8, 9, 11, 12, 13, 14, 15, 16],
+    cases: 130_000,
+    next,
+    sweep: no_sweep,
+    engine: |lent| order_engine::fields::same(lent.table, lent.first, lent.second).into(),
+    reference: |lent: Lent| {
+        let answer = reference::same(lent.table, lent.first, lent.second);
+        answer.map(|same| [u32::from(same)]).into()
+    },
+    mistake,
+    note,
+    shortfalls,
+};
 
 /// The longest schedules for which all chains are searched.
 const SEARCHED: usize = 7;
@@ -17,18 +36,7 @@ const SEARCHED_SAME: &str = "same, all chains searched";
 const SEARCHED_DIFFERENT: &str = "different, all chains searched";
 const LONG: &str = "of 256 entries";
 
-/// Compares the same verdicts on `cases` tables and pairs of schedules.
-pub fn compare(seed: u64, cases: usize) -> Result<Tally, Box<Difference>> {
-    let mut rng = Rng::new(seed);
-    let mut tally = Tally::default();
-    for _ in 0..cases {
-        case(&Twins::any(&mut rng), &mut tally)?;
-    }
-    Ok(tally)
-}
-
-/// What a comparison should have met and did not, in words; empty where it met everything.
-pub fn shortfalls(tally: &Tally) -> Vec<String> {
+fn shortfalls(tally: &Tally) -> Vec<String> {
     let quarter = tally.hits(0) / 4;
     Demands::of(tally)
         .accepted(100_000)
@@ -41,73 +49,63 @@ pub fn shortfalls(tally: &Tally) -> Vec<String> {
         .short()
 }
 
-/// Both verdicts on one input.
-fn case(twins: &Twins, tally: &mut Tally) -> Result<(), Box<Difference>> {
+/// Any table and two schedules.
+fn next(rng: &mut Rng, input: &mut Input) {
     let Twins {
         table,
         first,
         second,
-    } = twins;
-    let engine = of_engine(order_engine::same(table, first, second));
-    let engine: Answer<bool> = engine.map(|verdict| verdict == SameVerdict::Same);
-    let reference: Answer<bool> = of_reference(reference::same(table, first, second));
-    let searched = search(twins, reference);
-    let agreed = searched.is_none_or(|verdict| reference == Ok(verdict));
-    if engine != reference || !agreed {
-        let search = searched.map_or("none".to_string(), |verdict| verdict.to_string());
-        let difference = Difference::on(table)
-            .schedule("first schedule", first)
-            .schedule("second schedule", second)
-            .with("answers", "true is same")
-            .answers(&engine, &reference)
-            .with("all chains", search);
-        return Err(Box::new(difference));
-    }
-    count(tally, &reference, first, second);
-    if let Ok(verdict) = reference {
-        note(tally, twins, verdict, searched.is_some());
-    }
-    Ok(())
+    } = Twins::any(rng);
+    (input.table, input.first, input.second) = (table, first, second);
 }
 
-/// The verdict by searching all chains, for short schedules that are accepted.
-fn search(twins: &Twins, answer: Answer<bool>) -> Option<bool> {
-    answer.ok()?;
-    if twins.first.len() > SEARCHED {
-        return None;
-    }
-    let table = check(&twins.table).ok()?;
-    Some(chain_exists(&table, &twins.first, &twins.second))
+/// Unequal answers, or a search through all chains that finds otherwise.
+fn mistake(asked: &Asked) -> Option<String> {
+    unequal(asked).or_else(|| {
+        let Input {
+            table,
+            first,
+            second,
+            ..
+        } = asked.input;
+        if !searched(asked) {
+            return None;
+        }
+        let table = check(table).expect("the table is accepted");
+        let found = chain_exists(&table, first, second);
+        let says = asked.reference.values[0] == 1;
+        (found != says).then(|| format!("a search through all chains says {found}"))
+    })
 }
 
-/// Counts an answer about two schedules, and where a refused entry stood.
-pub(crate) fn count<T>(tally: &mut Tally, answer: &Answer<T>, first: &[u8], second: &[u8]) {
-    tally.count(number(answer));
-    match *answer {
-        Err((number @ 11..=13, index)) => tally.place(number, index, first.len()),
-        Err((number @ 14..=16, index)) => tally.place(number, index, second.len()),
-        _ => {}
-    }
+/// Whether all chains are searched.
+fn searched(asked: &Asked) -> bool {
+    asked.reference.accepted() && asked.input.first.len() <= SEARCHED
 }
 
-fn note(tally: &mut Tally, twins: &Twins, same: bool, searched: bool) {
+fn note(tally: &mut Tally, asked: &Asked) {
+    if !asked.reference.accepted() {
+        return;
+    }
+    let Input { first, second, .. } = asked.input;
+    let same = asked.reference.values[0] == 1;
     tally.note(if same { SAME } else { DIFFERENT });
     let sorted = |schedule: &[u8]| {
         let mut schedule = schedule.to_vec();
         schedule.sort_unstable();
         schedule
     };
-    if !same && sorted(&twins.first) == sorted(&twins.second) {
+    if !same && sorted(first) == sorted(second) {
         tally.note(ALIKE);
     }
-    if searched {
+    if searched(asked) {
         tally.note(if same {
             SEARCHED_SAME
         } else {
             SEARCHED_DIFFERENT
         });
     }
-    if twins.first.len() == 256 && twins.second.len() == 256 {
+    if first.len() == 256 && second.len() == 256 {
         tally.note(LONG);
     }
 }

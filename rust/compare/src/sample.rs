@@ -4,16 +4,6 @@ use crate::mix::Mix;
 use crate::rng::Rng;
 use reference::kind;
 
-/// Document 01's table A.
-pub const TABLE_A: [u8; 44] = [
-    1, 2, 1, 0, //
-    12, 0, 2, 0, 28, 0, 2, 0, //
-    0, 0, 0, 0, 0x95, 0, 0, 0, //
-    3, 0, 0, 0, 0, 0, 0, 0, //
-    4, 0, 2, 0, 0, 0, 0, 0, //
-    6, 3, 0, 1, 0, 0, 0, 0,
-];
-
 /// How many of everything a table has.
 #[derive(Clone, Debug)]
 pub struct Shape {

@@ -1,5 +1,6 @@
 //! What a comparison counts, and what it must have met to mean something.
 
+use crate::call::{Asked, Call};
 use std::collections::BTreeMap;
 use std::fmt;
 
@@ -15,22 +16,26 @@ pub struct Tally {
     places: [[u64; 3]; 20],
     /// By what was met.
     notes: BTreeMap<&'static str, u64>,
+    /// By the kinds of two steps of different actors.
+    kinds: [[u64; 11]; 11],
 }
 
 impl Tally {
-    /// Counts an answer: 0 for accepted, otherwise the refusal's number.
-    pub fn count(&mut self, number: u32) {
-        self.hits[number as usize] += 1;
-    }
-
-    /// Counts where in a schedule of `length` entries a refused entry stood.
-    pub fn place(&mut self, number: u32, index: u32, length: usize) {
-        let place = match index as usize {
+    /// Counts an answer, and for a refused entry where in its schedule it stood.
+    pub fn count(&mut self, asked: &Asked) {
+        let answer = asked.reference;
+        self.hits[answer.refusal as usize] += 1;
+        let length = match answer.refusal {
+            11..=13 => asked.input.first.len(),
+            14..=16 => asked.input.second.len(),
+            _ => return,
+        };
+        let place = match answer.position as usize {
             0 => 0,
             index if index + 1 == length => 2,
             _ => 1,
         };
-        self.places[number as usize][place] += 1;
+        self.places[answer.refusal as usize][place] += 1;
     }
 
     /// Counts something met.
@@ -38,7 +43,12 @@ impl Tally {
         *self.notes.entry(what).or_default() += 1;
     }
 
-    /// How often an answer was given.
+    /// Counts the kinds of two steps of different actors.
+    pub fn kinds(&mut self, one: usize, other: usize) {
+        self.kinds[one][other] += 1;
+    }
+
+    /// How often an answer was given: 0 for accepted, otherwise the refusal's number.
     pub fn hits(&self, number: u32) -> u64 {
         self.hits[number as usize]
     }
@@ -131,6 +141,30 @@ impl<'a> Demands<'a> {
         for what in whats {
             let hits = self.tally.notes(what);
             self = self.least(what.to_string(), hits, least);
+        }
+        self
+    }
+
+    /// So many of each kind against each.
+    pub fn kinds(mut self, least: u64) -> Self {
+        for (one, row) in self.tally.kinds.iter().enumerate() {
+            for (other, &hits) in row.iter().enumerate() {
+                self = self.least(format!("kind {one} against {other}"), hits, least);
+            }
+        }
+        self
+    }
+
+    /// Each refusal of the call at least once, and no other.
+    pub fn only_those_of(mut self, call: &Call) -> Self {
+        for number in 1..=19 {
+            let hits = self.tally.hits(number);
+            if call.refusals.contains(&number) {
+                self = self.least(format!("refused {number}"), hits, 1);
+            } else if hits > 0 {
+                self.short
+                    .push(format!("refused {number}: {hits}, which is not the call's"));
+            }
         }
         self
     }

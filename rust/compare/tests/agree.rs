@@ -1,12 +1,12 @@
 //! Short comparisons, for `cargo test`.
 
-use compare::COMPARISONS;
+use compare::CALLS;
 
 #[test]
 fn the_engines_agree() {
-    for comparison in COMPARISONS {
-        if let Err(difference) = (comparison.compare)(1, comparison.cases / 12) {
-            panic!("{}\n{difference}", comparison.name);
+    for call in CALLS {
+        if let Err(difference) = call.compare(1, call.cases / 12) {
+            panic!("{difference}");
         }
     }
 }

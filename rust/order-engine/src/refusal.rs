@@ -5,20 +5,46 @@ use std::fmt;
 
 /// Why a call refused, and where.
 ///
-/// A refused call changes nothing that it was lent.
+/// A refused call changes nothing that it was lent. Shown, it is a sentence:
+///
+/// ```
+/// let refusal = order_engine::check(&[]).unwrap_err();
+/// let words = "refused 1 at 0: the table is shorter than its header";
+/// assert_eq!(refusal.to_string(), words);
+/// ```
 #[derive(Clone, Copy, PartialEq, Eq, Hash, Debug)]
 pub struct Refusal {
     number: u32,
     position: u32,
 }
 
+/// What each refusal says, from number 1 on.
+const SENTENCES: [&str; 19] = [
+    "the table is shorter than its header",
+    "the table's edition is not 1",
+    "a count in the table's header is out of its range",
+    "the table's directory is cut short or has a wrong entry",
+    "the table does not end where its directory says",
+    "the action has an unknown kind",
+    "the action names a cell, mailbox or mutex that does not exist, or its list's length is not 1 to 4",
+    "the action lists one that is not an earlier Send or Receive of its actor",
+    "a byte that the action does not use is not 0",
+    "the report buffer is too small",
+    "the schedule's entry names no actor of the table",
+    "the schedule's entry names an actor that already finished",
+    "the schedule's entry names an actor that is not ready",
+    "the second schedule's entry names no actor of the table",
+    "the second schedule's entry names an actor that already finished",
+    "the second schedule's entry names an actor that is not ready",
+    "a step's name is not in the table",
+    "the route buffer is too small",
+    "the schedules are not the same, so that no route joins them",
+];
+
 impl Refusal {
-    /// The answer of a call whose `number` is 0 where it accepted.
-    pub(crate) fn unless_accepted(number: u32, position: u32) -> Result<(), Self> {
-        match number {
-            0 => Ok(()),
-            _ => Err(Self { number, position }),
-        }
+    /// A refusal that a call gave.
+    pub(crate) fn new(number: u32, position: u32) -> Self {
+        Self { number, position }
     }
 
     /// The refusal's number, 1 to 19.
@@ -31,54 +57,37 @@ impl Refusal {
     pub fn position(&self) -> u32 {
         self.position
     }
+
+    /// What is wrong, in plain words.
+    pub fn sentence(&self) -> &'static str {
+        let index = (self.number as usize).wrapping_sub(1);
+        SENTENCES
+            .get(index)
+            .unwrap_or(&"a refusal that this version has no words for")
+    }
 }
 
 impl fmt::Display for Refusal {
     fn fmt(&self, f: &mut fmt::Formatter<'_>) -> fmt::Result {
-        let Self { number, position } = *self;
-        write!(f, "refused {number} at {position}: ")?;
-        match number {
-            1 => write!(f, "the table is shorter than its header"),
-            2 => write!(f, "the table's edition is not 1"),
-            3 => write!(f, "a count in the table's header is out of its range"),
-            4 => write!(f, "the table's directory is cut short or has a wrong entry"),
-            5 => write!(f, "the table does not end where its directory says"),
-            6 => write!(f, "the action has an unknown kind"),
-            7 => write!(
-                f,
-                "the action names a cell, mailbox or mutex that does not exist, \
-                 or its list's length is not 1 to 4"
-            ),
-            8 => write!(
-                f,
-                "the action lists one that is not an earlier Send or Receive of its actor"
-            ),
-            9 => write!(f, "a byte that the action does not use is not 0"),
-            10 => write!(f, "the report buffer is too small"),
-            11 => write!(f, "the schedule's entry names no actor of the table"),
-            12 => write!(
-                f,
-                "the schedule's entry names an actor that already finished"
-            ),
-            13 => write!(f, "the schedule's entry names an actor that is not ready"),
-            14 => write!(f, "the second schedule's entry names no actor of the table"),
-            15 => write!(
-                f,
-                "the second schedule's entry names an actor that already finished"
-            ),
-            16 => write!(
-                f,
-                "the second schedule's entry names an actor that is not ready"
-            ),
-            17 => write!(f, "a step's name is not in the table"),
-            18 => write!(f, "the route buffer is too small"),
-            19 => write!(
-                f,
-                "the schedules are not the same, so that no route joins them"
-            ),
-            _ => write!(f, "a refusal that this version has no words for"),
-        }
+        let Self { number, position } = self;
+        write!(f, "refused {number} at {position}: {}", self.sentence())
     }
 }
 
 impl Error for Refusal {}
+
+#[cfg(test)]
+mod tests {
+    use super::{Refusal, SENTENCES};
+    use std::collections::HashSet;
+
+    #[test]
+    fn each_number_has_a_sentence_of_its_own() {
+        let said: HashSet<&str> = (1..=19).map(|n| Refusal::new(n, 0).sentence()).collect();
+        assert_eq!(said, HashSet::from(SENTENCES));
+        assert_eq!(said.len(), 19);
+        for number in [0, 20, u32::MAX] {
+            assert!(!said.contains(Refusal::new(number, 0).sentence()));
+        }
+    }
+}

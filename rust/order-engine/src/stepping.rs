@@ -1,6 +1,6 @@
 //! Stepping a schedule: the run and the ready answer.
 
-use crate::ffi;
+use crate::fields;
 use crate::refusal::Refusal;
 
 /// The bytes that [`run`] wants lent. No report is longer.
@@ -28,52 +28,38 @@ pub struct Ready {
     pub ending: Ending,
 }
 
+impl Ready {
+    /// The actors that are ready, lowest first.
+    pub fn actors(&self) -> impl Iterator<Item = u8> + use<> {
+        let mask = self.mask;
+        (0..8).filter(move |actor| mask >> actor & 1 == 1)
+    }
+}
+
 /// Steps `schedule` from a fresh site and writes the report of the state it leads to into `report`,
 /// which must have at least [`REPORT_ROOM`] bytes. Answers with the report's length; bytes after it
 /// keep what they held.
 ///
 /// Refusals: 10, then 1 to 9, then 11 to 13. A refused run writes nothing.
 pub fn run(table: &[u8], schedule: &[u8], report: &mut [u8]) -> Result<usize, Refusal> {
-    // SAFETY: pointers and lengths are those of slices that are borrowed throughout the call, the
-    // report mutably. The call reads the first two and writes inside the third.
-    let answer = unsafe {
-        ffi::order_run(
-            table.as_ptr(),
-            table.len(),
-            schedule.as_ptr(),
-            schedule.len(),
-            report.as_mut_ptr(),
-            report.len(),
-        )
-    };
-    Refusal::unless_accepted(answer.refusal, answer.position)?;
-    Ok(answer.length as usize)
+    let [length] = fields::run(table, schedule, report).accepted()?;
+    Ok(length as usize)
 }
 
 /// Steps `schedule` from a fresh site and tells who is ready in the state it leads to.
 ///
 /// Refusals: 1 to 9, then 11 to 13.
 pub fn ready(table: &[u8], schedule: &[u8]) -> Result<Ready, Refusal> {
-    // SAFETY: pointers and lengths are those of slices that are borrowed throughout the call, which
-    // only reads them.
-    let answer = unsafe {
-        ffi::order_ready(
-            table.as_ptr(),
-            table.len(),
-            schedule.as_ptr(),
-            schedule.len(),
-        )
-    };
-    Refusal::unless_accepted(answer.refusal, answer.position)?;
-    let ending = match answer.ending {
+    let [mask, count, ending] = fields::ready(table, schedule).accepted()?;
+    let ending = match ending {
         0 => Ending::Finished,
         1 => Ending::Stuck,
         2 => Ending::Going,
         other => unreachable!("order_ready answered with ending {other}"),
     };
     Ok(Ready {
-        mask: answer.mask,
-        count: answer.count,
+        mask,
+        count,
         ending,
     })
 }

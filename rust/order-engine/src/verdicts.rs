@@ -1,6 +1,6 @@
 //! Judging steps and schedules: pair, same and route.
 
-use crate::ffi;
+use crate::fields;
 use crate::refusal::Refusal;
 
 /// What [`pair`] answers.
@@ -28,20 +28,8 @@ pub type StepName = (u8, u8);
 ///
 /// Refusals: 1 to 9, then 17.
 pub fn pair(table: &[u8], first: StepName, second: StepName) -> Result<PairVerdict, Refusal> {
-    // SAFETY: pointer and length are those of a slice that is borrowed throughout the call, which
-    // only reads it.
-    let answer = unsafe {
-        ffi::order_pair(
-            table.as_ptr(),
-            table.len(),
-            first.0,
-            first.1,
-            second.0,
-            second.1,
-        )
-    };
-    Refusal::unless_accepted(answer.refusal, answer.position)?;
-    match answer.verdict {
+    let [verdict] = fields::pair(table, first, second).accepted()?;
+    match verdict {
         0 => Ok(PairVerdict::Independent),
         1 => Ok(PairVerdict::Dependent),
         other => unreachable!("order_pair answered with verdict {other}"),
@@ -52,20 +40,8 @@ pub fn pair(table: &[u8], first: StepName, second: StepName) -> Result<PairVerdi
 ///
 /// Refusals: 1 to 9, then 11 to 13 for the first schedule, then 14 to 16 for the second.
 pub fn same(table: &[u8], first: &[u8], second: &[u8]) -> Result<SameVerdict, Refusal> {
-    // SAFETY: pointers and lengths are those of slices that are borrowed throughout the call, which
-    // only reads them.
-    let answer = unsafe {
-        ffi::order_same(
-            table.as_ptr(),
-            table.len(),
-            first.as_ptr(),
-            first.len(),
-            second.as_ptr(),
-            second.len(),
-        )
-    };
-    Refusal::unless_accepted(answer.refusal, answer.position)?;
-    match answer.verdict {
+    let [verdict] = fields::same(table, first, second).accepted()?;
+    match verdict {
         0 => Ok(SameVerdict::Different),
         1 => Ok(SameVerdict::Same),
         other => unreachable!("order_same answered with verdict {other}"),
@@ -89,21 +65,6 @@ pub fn route(
     second: &[u8],
     route: &mut [u16],
 ) -> Result<usize, Refusal> {
-    // SAFETY: pointers and lengths are those of slices that are borrowed throughout the call, the
-    // route mutably. The call reads the first three and writes inside the fourth, whose length
-    // counts entries.
-    let answer = unsafe {
-        ffi::order_route(
-            table.as_ptr(),
-            table.len(),
-            first.as_ptr(),
-            first.len(),
-            second.as_ptr(),
-            second.len(),
-            route.as_mut_ptr(),
-            route.len(),
-        )
-    };
-    Refusal::unless_accepted(answer.refusal, answer.position)?;
-    Ok(answer.length as usize)
+    let [length] = fields::route(table, first, second, route).accepted()?;
+    Ok(length as usize)
 }

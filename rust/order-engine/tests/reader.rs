@@ -2,16 +2,7 @@
 //! a refusal.
 
 use order_engine::{Refusal, check};
-
-/// Document 01's table A.
-const A: [u8; 44] = [
-    1, 2, 1, 0, //
-    12, 0, 2, 0, 28, 0, 2, 0, //
-    0, 0, 0, 0, 0x95, 0, 0, 0, //
-    3, 0, 0, 0, 0, 0, 0, 0, //
-    4, 0, 2, 0, 0, 0, 0, 0, //
-    6, 3, 0, 1, 0, 0, 0, 0,
-];
+use reference::TABLE_A as A;
 
 /// The refusal of A with one byte replaced.
 fn refusal(at: usize, byte: u8) -> Refusal {

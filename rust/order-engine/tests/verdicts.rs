@@ -3,16 +3,7 @@
 use order_engine::PairVerdict::{Dependent, Independent};
 use order_engine::SameVerdict::{Different, Same};
 use order_engine::{Refusal, pair, route, route_room, same};
-
-/// Document 01's table A.
-const A: [u8; 44] = [
-    1, 2, 1, 0, //
-    12, 0, 2, 0, 28, 0, 2, 0, //
-    0, 0, 0, 0, 0x95, 0, 0, 0, //
-    3, 0, 0, 0, 0, 0, 0, 0, //
-    4, 0, 2, 0, 0, 0, 0, 0, //
-    6, 3, 0, 1, 0, 0, 0, 0,
-];
+use reference::TABLE_A as A;
 
 fn numbers<T: std::fmt::Debug>(answer: Result<T, Refusal>) -> (u32, u32) {
     let refusal = answer.unwrap_err();

@@ -59,4 +59,4 @@ pub use run::run;
 pub use same::same;
 pub use search::chain_exists;
 pub use site::Site;
-pub use table::Table;
+pub use table::{TABLE_A, Table};

@@ -1,16 +1,6 @@
 //! The reader against document 01: table A, cases (i) and (j), and a case for each condition.
 
-use reference::{Action, Refusal, check, validate};
-
-/// Document 01's table A.
-const A: [u8; 44] = [
-    1, 2, 1, 0, //
-    12, 0, 2, 0, 28, 0, 2, 0, //
-    0, 0, 0, 0, 0x95, 0, 0, 0, //
-    3, 0, 0, 0, 0, 0, 0, 0, //
-    4, 0, 2, 0, 0, 0, 0, 0, //
-    6, 3, 0, 1, 0, 0, 0, 0,
-];
+use reference::{Action, Refusal, TABLE_A as A, check, validate};
 
 /// Number and position of the refusal, 0 and 0 where accepted.
 fn answer(table: &[u8]) -> (u32, u32) {

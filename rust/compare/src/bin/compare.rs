@@ -1,91 +1,86 @@
 //! Compares the proved engine with the reference on many inputs that a seed determines. Ends with
 //! status 1 at the first difference, or where too few inputs of some sort were met.
 
-use compare::{COMPARISONS, Comparison};
-use std::env;
+use compare::call::Call;
+use compare::options::Options;
+use compare::shrink::shrunk;
+use compare::tally::{Demands, Tally};
 use std::process::ExitCode;
-use std::str::FromStr;
 use std::time::Instant;
 
 const SEED: u64 = 20_250_101;
 
-/// What the command line asks for.
-struct Options {
-    seed: u64,
-    /// The number of random cases of each comparison, where it is not the comparison's own.
-    cases: Option<usize>,
-    /// The comparisons to run; all where none is named.
-    names: Vec<String>,
-}
-
 fn main() -> ExitCode {
-    let options = match options() {
+    let options = match Options::read() {
         Ok(options) => options,
         Err(mistake) => {
-            let names: Vec<&str> = COMPARISONS.iter().map(|each| each.name).collect();
-            let names = names.join(" | ");
-            eprintln!("{mistake}\nusage: compare [{names}]... [--seed N] [--cases N]");
+            eprintln!("{mistake}");
             return ExitCode::from(2);
         }
     };
-    let named = |each: &&Comparison| {
-        options.names.is_empty() || options.names.iter().any(|name| name == each.name)
-    };
-    for comparison in COMPARISONS.iter().filter(named) {
-        if !holds(comparison, &options) {
+    let mut tallies = Vec::new();
+    for call in options.calls() {
+        let Some(tally) = held(call, &options) else {
             return ExitCode::FAILURE;
-        }
+        };
+        tallies.push((call, tally));
     }
+    refusals(&tallies);
     ExitCode::SUCCESS
 }
 
-/// Runs a comparison and prints what it met; whether there was no difference, and enough was met.
-fn holds(comparison: &Comparison, options: &Options) -> bool {
-    let seed = options.seed;
-    let cases = options.cases.unwrap_or(comparison.cases);
-    println!("{}: {}", comparison.name, comparison.about);
-    println!("seed {seed}, {cases} random cases");
+/// Compares a call and prints what was met; none where there was a difference, or too little was
+/// met.
+fn held(call: &'static Call, options: &Options) -> Option<Tally> {
+    let seed = options.seed.unwrap_or(SEED);
+    let cases = options.cases.unwrap_or(call.cases);
+    println!(
+        "{}: {}, refusals {:?}",
+        call.name, call.about, call.refusals
+    );
+    println!("seed {seed}, {cases} random inputs");
     let start = Instant::now();
-    let tally = match (comparison.compare)(seed, cases) {
+    let tally = match call.compare(seed, cases) {
         Ok(tally) => tally,
         Err(difference) => {
-            println!("DIFFERENT with seed {seed}\n{difference}");
-            return false;
+            println!(
+                "DIFFERENT with seed {seed}; shrunk:\n{}",
+                shrunk(*difference)
+            );
+            return None;
         }
     };
     println!("{tally}");
-    let shortfalls = (comparison.shortfalls)(&tally);
+    let mut shortfalls = Demands::of(&tally).only_those_of(call).short();
+    shortfalls.extend((call.shortfalls)(&tally));
     if shortfalls.is_empty() {
         println!("no difference, {:.1} s\n", start.elapsed().as_secs_f64());
-        return true;
+        return Some(tally);
     }
     println!("TOO FEW");
     for shortfall in shortfalls {
         println!("{shortfall}");
     }
-    false
+    None
 }
 
-fn options() -> Result<Options, String> {
-    let mut options = Options {
-        seed: SEED,
-        cases: None,
-        names: Vec::new(),
-    };
-    let mut words = env::args().skip(1);
-    while let Some(word) = words.next() {
-        match word.as_str() {
-            "--seed" => options.seed = number(&word, words.next())?,
-            "--cases" => options.cases = Some(number(&word, words.next())?),
-            name if COMPARISONS.iter().any(|each| each.name == name) => options.names.push(word),
-            _ => return Err(format!("there is no comparison or option {word}")),
-        }
+/// Prints how often each call gave each of its refusals. At each one every field of the answer was
+/// compared, and every byte that the call was lent with what it held before.
+fn refusals(tallies: &[(&Call, Tally)]) {
+    println!("refusals, each with all fields and every lent byte compared");
+    print!("{:<8}", "");
+    for (call, _) in tallies {
+        print!("{:>9}", call.name);
     }
-    Ok(options)
-}
-
-/// The number that follows an option.
-fn number<T: FromStr>(option: &str, word: Option<String>) -> Result<T, String> {
-    word.and_then(|word| word.parse().ok())
-        .ok_or_else(|| format!("{option} wants a number"))
+    println!();
+    for number in 1..=19 {
+        print!("{number:<8}");
+        for (call, tally) in tallies {
+            match call.refusals.contains(&number) {
+                true => print!("{:>9}", tally.hits(number)),
+                false => print!("{:>9}", "-"),
+            }
+        }
+        println!();
+    }
 }

@@ -2,17 +2,8 @@
 
 #![allow(dead_code)]
 
+pub use reference::TABLE_A as A;
 use reference::{Refusal, Site, check, follow, run};
-
-/// Document 01's table A.
-pub const A: [u8; 44] = [
-    1, 2, 1, 0, //
-    12, 0, 2, 0, 28, 0, 2, 0, //
-    0, 0, 0, 0, 0x95, 0, 0, 0, //
-    3, 0, 0, 0, 0, 0, 0, 0, //
-    4, 0, 2, 0, 0, 0, 0, 0, //
-    6, 3, 0, 1, 0, 0, 0, 0,
-];
 
 /// A table of the actors' actions, with two mailboxes and two mutexes.
 pub fn table(actors: &[&[[u8; 8]]]) -> Vec<u8> {

@@ -1,5 +1,6 @@
 //! Rounds, times and ratios.
 
+use compare::workload::{Load, Measure, Work};
 use std::hint::black_box;
 use std::time::{Duration, Instant};
 
@@ -7,64 +8,96 @@ const ROUNDS: usize = 201;
 /// How long one engine's part of a round lasts, about.
 const PART: Duration = Duration::from_millis(1);
 
-/// Prints the table's head.
-pub fn head() {
-    println!("nanoseconds per call, {ROUNDS} rounds each");
-    println!(
-        "{:<34}{:>10}{:>11}{:>15}{:>15}",
-        "call and input", "engine", "reference", "ratio, median", "ratio, least"
-    );
+/// What was measured of a call on a load.
+pub struct Row {
+    pub call: &'static str,
+    pub load: &'static str,
+    /// How many inputs the load has.
+    pub inputs: usize,
+    /// The least nanoseconds per call, of all rounds.
+    pub engine: f64,
+    pub reference: f64,
+    /// The median of the rounds' ratios.
+    pub ratio: f64,
 }
 
-/// Prints the least times of both engines, the median of the rounds' ratios, and the least times'
-/// ratio. A call answers with a number that both must agree on.
-pub fn measure<I>(
-    name: &str,
-    inputs: &[I],
-    mut engine: impl FnMut(&I) -> usize,
-    mut reference: impl FnMut(&I) -> usize,
-) {
-    for input in inputs {
-        assert_eq!(engine(input), reference(input), "{name}");
+/// Measures and prints.
+pub struct Timing {
+    pub rows: Vec<Row>,
+}
+
+impl Timing {
+    /// Prints the table's head.
+    pub fn new() -> Self {
+        println!(
+            "nanoseconds per call, least of {ROUNDS} rounds, and the median of the rounds' ratios"
+        );
+        println!(
+            "{:<8}{:<14}{:>10}{:>11}{:>8}",
+            "call", "table", "engine", "reference", "ratio"
+        );
+        Self { rows: Vec::new() }
     }
-    let turns = turns(inputs, &mut reference);
-    let (mut engines, mut references, mut ratios) = (Vec::new(), Vec::new(), Vec::new());
-    for round in 0..ROUNDS {
-        // Each goes first in every second round.
-        let (ours, theirs) = if round % 2 == 0 {
-            let ours = time(&mut engine, inputs, turns);
-            (ours, time(&mut reference, inputs, turns))
-        } else {
-            let theirs = time(&mut reference, inputs, turns);
-            (time(&mut engine, inputs, turns), theirs)
+}
+
+impl Measure for Timing {
+    fn measure(
+        &mut self,
+        call: &'static str,
+        load: &Load,
+        mut engine: impl FnMut(&Work) -> usize,
+        mut reference: impl FnMut(&Work) -> usize,
+    ) {
+        let works = &load.works;
+        for work in works {
+            assert_eq!(engine(work), reference(work), "{call}");
+        }
+        let turns = turns(works, &mut reference);
+        let (mut engines, mut references, mut ratios) = (Vec::new(), Vec::new(), Vec::new());
+        for round in 0..ROUNDS {
+            // Each goes first in every second round.
+            let (ours, theirs) = if round % 2 == 0 {
+                let ours = time(&mut engine, works, turns);
+                (ours, time(&mut reference, works, turns))
+            } else {
+                let theirs = time(&mut reference, works, turns);
+                (time(&mut engine, works, turns), theirs)
+            };
+            engines.push(ours);
+            references.push(theirs);
+            ratios.push(ours / theirs);
+        }
+        let row = Row {
+            call,
+            load: load.name,
+            inputs: works.len(),
+            engine: least(&engines),
+            reference: least(&references),
+            ratio: median(&mut ratios),
         };
-        engines.push(ours);
-        references.push(theirs);
-        ratios.push(ours / theirs);
+        println!(
+            "{call:<8}{:<14}{:>10.1}{:>11.1}{:>8.2}",
+            row.load, row.engine, row.reference, row.ratio
+        );
+        self.rows.push(row);
     }
-    let (engine, reference) = (least(&engines), least(&references));
-    println!(
-        "{name:<34}{engine:>10.1}{reference:>11.1}{:>15.2}{:>15.2}",
-        median(&mut ratios),
-        engine / reference
-    );
 }
 
 /// How often a part goes through the inputs.
-fn turns<I>(inputs: &[I], reference: &mut impl FnMut(&I) -> usize) -> usize {
-    let once = time(reference, inputs, 3) * inputs.len() as f64;
+fn turns(works: &[Work], reference: &mut impl FnMut(&Work) -> usize) -> usize {
+    let once = time(reference, works, 3) * works.len() as f64;
     ((PART.as_nanos() as f64 / once) as usize).max(1)
 }
 
 /// Nanoseconds per call.
-fn time<I>(call: &mut impl FnMut(&I) -> usize, inputs: &[I], turns: usize) -> f64 {
+fn time(call: &mut impl FnMut(&Work) -> usize, works: &[Work], turns: usize) -> f64 {
     let start = Instant::now();
     for _ in 0..turns {
-        for input in inputs {
-            black_box(call(black_box(input)));
+        for work in works {
+            black_box(call(black_box(work)));
         }
     }
-    start.elapsed().as_nanos() as f64 / (turns * inputs.len()) as f64
+    start.elapsed().as_nanos() as f64 / (turns * works.len()) as f64
 }
 
 fn least(times: &[f64]) -> f64 {
