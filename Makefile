@@ -1,23 +1,33 @@
-# make run     the main job: for now, the proved calls compared with the reference
-# make test    everything: layout, the Rust side, the calls from C, the comparison, then every proof and must-fail edit
-# make bench   the proved engine's times and instructions against the reference's; writes docs/BENCHMARK.md
-# make soak    the comparison from a random seed, MINUTES=n minutes long
+# make run      the main job: the listing of each folder of examples/, or of SITE=folder
+# make test     everything: layout, the Rust side, the calls from C, the listings, the comparison, then every proof and must-fail edit
+# make compare  the proved calls compared with the reference
+# make bench    the proved engine's times and instructions against the reference's; writes docs/BENCHMARK.md
+# make soak     the comparison from a random seed, MINUTES=n minutes long
 
 CARGO := cd rust && cargo
 LOCKED := --offline --locked
 MINUTES := 10
+SITE :=
+TURNS := $(CURDIR)/target/bin/turns
 
 WARNINGS := -Wall -Wextra -Wpedantic -Werror -Wshadow -Wconversion -Wstrict-prototypes -Wmissing-prototypes -Wcast-qual
 CFLAGS := -std=c11 -O1 $(WARNINGS)
 
-.PHONY: run test bench soak lib layout rust c-test guarded proofs clean
+.PHONY: run test compare bench soak lib program layout rust c-test listings guarded proofs clean
 .NOTPARALLEL:
 
-run: lib
-	$(CARGO) run $(LOCKED) --release --quiet --bin compare
+run: program
+ifeq ($(SITE),)
+	@for folder in examples/*/*/; do echo "$$folder"; (cd "$$folder" && "$(TURNS)") || exit 1; done
+else
+	@cd "$(SITE)" && "$(TURNS)"
+endif
 
 # The proofs come last: `rt ci` removes target/, and with it the static library, and its last line is the verdict.
-test: layout rust c-test run guarded proofs
+test: layout rust c-test listings compare guarded proofs
+
+compare: lib
+	$(CARGO) run $(LOCKED) --release --quiet --bin compare
 
 # Every lent buffer at an inaccessible page.
 guarded: lib
@@ -34,6 +44,11 @@ soak: lib
 lib:
 	rt staticlib order_ffi
 
+# The listing program, as target/bin/turns; what the prover says is shown where it refuses.
+program:
+	@mkdir -p target
+	@rt check turns > target/turns.log 2>&1 || { cat target/turns.log; exit 1; }
+
 layout:
 	rt fmt --check
 	$(CARGO) fmt --all --check
@@ -47,6 +62,9 @@ c-test: lib
 	mkdir -p target/c-test
 	$(CC) $(CFLAGS) -Iinclude tests/c/calls.c target/staticlib/liborder_ffi.a -o target/c-test/calls
 	target/c-test/calls
+
+listings: program
+	tests/turns/run
 
 proofs:
 	rt ci

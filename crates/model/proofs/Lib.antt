@@ -4,7 +4,8 @@
 -- `ReadyMask`: the mask's bits and ones;
 -- `Demand3`: demand 3, of every table that the reader accepts;
 -- `Refusals`: a refused run changes nothing lent;
--- `Routes`: the route call's promise can be kept.
+-- `Routes`: the route call's promise can be kept;
+-- `Beginnings`: a listing goes by the beginnings of its files alone.
 pub mod Upd
 pub mod Ports
 pub mod FourCases
@@ -28,5 +29,10 @@ pub mod ReportBoundSteps
 pub mod ReportBoundCells
 pub mod ReportBoundValues
 pub mod ReportBound
+pub mod Decimal
+pub mod TableBeginning
+pub mod Beginnings
 pub mod Cases
 pub mod Examples
+pub mod Listings
+pub mod Forecourt

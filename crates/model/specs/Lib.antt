@@ -12,6 +12,7 @@ pub mod Report
 pub mod Schedule
 pub mod Calls
 pub mod Route
+pub mod Listing
 pub mod FourCases
 pub mod ReadyMask
 pub mod Demand3
@@ -20,3 +21,5 @@ pub mod Bound
 pub mod Claims
 pub mod Cases
 pub mod Examples
+pub mod Listings
+pub mod Forecourt

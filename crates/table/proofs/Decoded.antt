@@ -1,11 +1,11 @@
 -- Decoding: what the kind says, and what stands past the end of a file.
 -- Assumes nothing.
-use mathlib.Core.Path.{_≡_, refl, _∙_, ap, ap₂, sym}
+use mathlib.Core.Path.{_≡_, refl, _∙_, ap, sym}
 use mathlib.Core.List.{List}
 use Prim.Native.Nat.{ℕ, suc, _+_, _-_, _≤_}
 use native.Mathlib.Omega.{arith}
 use lib.ListN.{length, List·getD-eq-default}
-use Rattle.table.specs.declared.Action.the-variants.{Set, MutexWait}
+use Rattle.table.specs.declared.Action.the-variants.{MutexWait}
 use Rattle.table.specs.declared.Numbers.{Numbers}
 use Rattle.table.specs.Format.{byteAt, wordAt, kindAt, pAt}
 use Rattle.table.specs.Decode.{decodeAs, decode, numbersAt}
@@ -44,10 +44,3 @@ module _ (b : List ℕ) where
       where
         moved : (i j : ℕ) → i ≡ j → byteAt b i ≡ byteAt b j
         moved i j e = ap (byteAt b) e
-
-    -- past the end stand zeros, which read as a Set
-    pub decode-past : length b ≤ at → decode b at ≡ Set 0 0
-    unfolding decodeAs
-    decode-past h =
-        sym (of-kind 0 (byte-past at h))
-        ∙ ap₂ Set (byte-past (at + 1) (omega arith)) (omega (arith, word-past (at + 4) (omega arith), word-past (at + 4 + 2) (omega arith)))

@@ -12,7 +12,10 @@ use lib.Dec.{leb}
 use lib.ListN.{take, getD, length}
 use lib.Seq.{take-nil}
 use borrow.Author.Tests.{leb-true, leb-false, le-leb, lt-leb}
+use Rattle.table.specs.declared.Numbers.{Numbers}
+use Rattle.table.specs.Promise.{number}
 use Rattle.trace.proofs.Bools.{which}
+use Rattle.model.specs.Views.{listed}
 use Rattle.verdict.specs.Marks.{allOf, Each}
 
 -- a place that the list lacks, and one that it has
@@ -61,8 +64,12 @@ module _ (f : ℕ → ℕ) (count : ℕ) where
   joined x y z w a b c d e = e ∙ ap₂ bitOr a (ap₂ bitOr b (ap₂ bitOr c d)) ∙ places x y z w
 
 -- what holds of every number in a list, at a place that the list has
-pub each-at : (P : ℕ → Type 0) (c i : ℕ) (l : List ℕ) → Each P (take c l) → i < c → i < length l → P (getD l i 0)
+each-at : (P : ℕ → Type 0) (c i : ℕ) (l : List ℕ) → Each P (take c l) → i < c → i < length l → P (getD l i 0)
 each-at P zero i l e h k = absurd (not-suc-le-zero h)
 each-at P (suc c) i [] e h k = absurd (not-suc-le-zero k)
 each-at P (suc c) zero (x ∷ l) e h k = e .0
 each-at P (suc c) (suc i) (x ∷ l) e h k = each-at P c i l (e .1) (le-of-suc-le-suc h) (le-of-suc-le-suc k)
+
+-- the same of the numbers of a list in an action
+pub listed-at : (P : ℕ → Type 0) (l : Numbers) (i : ℕ) → Each P (listed l) → i < 4 → i < l .count → P (number l i)
+listed-at P l i e k h = each-at P (l .count) i (l .n0 ∷ l .n1 ∷ l .n2 ∷ l .n3 ∷ []) e h k

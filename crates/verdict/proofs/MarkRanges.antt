@@ -1,4 +1,4 @@
--- What a step of an accepted table posts and looks at has mailboxes and mutexes below 8.
+-- What a step of an accepted table looks at stands in the table, and what it posts and looks at has mailboxes and mutexes below 8.
 -- Assumes nothing but the accepted table.
 use Prim.Native.Nat.{ℕ, zero, suc, _<_, suc-le-suc, zero-le}
 use native.Mathlib.Omega.{arith}
@@ -11,11 +11,11 @@ use Rattle.table.specs.Format.{mutexesOf}
 use Rattle.table.specs.Promise.{Accepted, Listing, LowerPost, InRange}
 use Rattle.trace.specs.Machine.{Name}
 use Rattle.model.specs.Site.{name}
-use Rattle.model.specs.Views.{posts, looks, listed}
+use Rattle.model.specs.Views.{posts, Look, blind, communications, mutexes, looks, listed}
 use Rattle.model.specs.Step.{actionAt}
 use Rattle.model.specs.Pair.{postAt}
 use Rattle.verdict.specs.Names.{Stands}
-use Rattle.verdict.specs.Marks.{SmallPost, Each, SmallLook}
+use Rattle.verdict.specs.Marks.{SmallPost, Each, SmallLook, LookStands}
 
 each-taken : (P : ℕ → Type 0) (c : ℕ) (l : List ℕ) → ((i : ℕ) → i < c → P (getD l i 0)) → Each P (take c l)
 each-taken P zero l h = tt
@@ -51,27 +51,33 @@ module _ (table : List ℕ) (accepted : Accepted table) where
   pub listed-stands : (x : Name) → Stands table x → (j : ℕ) → LowerPost table (x .actor) (x .position) j → Stands table (name (x .actor) j)
   listed-stands x s j h = (s .0, omega (arith, s .1, h .0))
 
-  pub listed-small : (x : Name) → Stands table x → (l : Numbers) → Listing (LowerPost table (x .actor) (x .position)) l
-      → Each (λ j. SmallPost (postAt table (x .actor) j)) (listed l)
-  listed-small x s l h =
-      each-map (λ j lower. small-post (name (x .actor) j) (listed-stands x s j lower)) (listed l)
-      (each-listed (LowerPost table (x .actor) (x .position)) l h)
+  pub listed-standing : (x : Name) → Stands table x → (l : Numbers) → Listing (LowerPost table (x .actor) (x .position)) l
+      → Each (λ j. Stands table (name (x .actor) j)) (listed l)
+  listed-standing x s l h = each-map (listed-stands x s) (listed l) (each-listed (LowerPost table (x .actor) (x .position)) l h)
 
   mutexes-small : (l : Numbers) → Listing (λ m. m < mutexesOf table) l → Each (λ m. m < 8) (listed l)
   mutexes-small l h = each-map (λ m lt. omega (arith, lt, accepted .mutexes-most)) (listed l) (each-listed (λ m. m < mutexesOf table) l h)
 
-  look-small : (x : Name) → Stands table x → (t : Action) → InRange table (x .actor) (x .position) t → SmallLook (postAt table (x .actor)) (looks t)
-  look-small x s (Set cell value) h = tt
-  look-small x s (Add cell other) h = tt
-  look-small x s (Lesser cell other) h = tt
-  look-small x s (Send mailbox cell) h = tt
-  look-small x s (Receive mailbox cell) h = tt
-  look-small x s (TestAny result list) h = listed-small x s list (h .1)
-  look-small x s (WaitAny result list) h = listed-small x s list (h .1)
-  look-small x s (Lock mutex) h = tt
-  look-small x s (Unlock mutex) h = tt
-  look-small x s (MutexTest result list) h = mutexes-small list (h .1)
-  look-small x s (MutexWait result list) h = mutexes-small list (h .1)
+  look-standing : (x : Name) → Stands table x → (t : Action) → InRange table (x .actor) (x .position) t → LookStands table (x .actor) (looks t)
+  look-standing x s (Set cell value) h = tt
+  look-standing x s (Add cell other) h = tt
+  look-standing x s (Lesser cell other) h = tt
+  look-standing x s (Send mailbox cell) h = tt
+  look-standing x s (Receive mailbox cell) h = tt
+  look-standing x s (TestAny result list) h = listed-standing x s list (h .1)
+  look-standing x s (WaitAny result list) h = listed-standing x s list (h .1)
+  look-standing x s (Lock mutex) h = tt
+  look-standing x s (Unlock mutex) h = tt
+  look-standing x s (MutexTest result list) h = mutexes-small list (h .1)
+  look-standing x s (MutexWait result list) h = mutexes-small list (h .1)
+
+  pub look-stands : (x : Name) → Stands table x → LookStands table (x .actor) (looks (actionAt table x))
+  look-stands x s = look-standing x s (actionAt table x) (accepted .in-range (x .actor) (x .position) (s .0) (s .1))
+
+  look-small : (a : ℕ) (y : Look) → LookStands table a y → SmallLook (postAt table a) y
+  look-small a blind h = tt
+  look-small a (communications l) h = each-map (λ j. small-post (name a j)) l h
+  look-small a (mutexes l) h = h
 
   pub small-look : (x : Name) → Stands table x → SmallLook (postAt table (x .actor)) (looks (actionAt table x))
-  small-look x s = look-small x s (actionAt table x) (accepted .in-range (x .actor) (x .position) (s .0) (s .1))
+  small-look x s = look-small (x .actor) (looks (actionAt table x)) (look-stands x s)

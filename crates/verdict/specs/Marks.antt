@@ -5,10 +5,11 @@ use Prim.Native.Nat.{ℕ, _+_, _*_, _^_, _<_}
 use mathlib.Core.List.{List, [], _∷_}
 use lib.Bits.{bitOr}
 use Rattle.trace.specs.Machine.{Name}
-use Rattle.model.specs.Site.{Side, sends, receives, otherSide}
+use Rattle.model.specs.Site.{name, Side, sends, receives, otherSide}
 use Rattle.model.specs.Views.{Post, silent, mails, joins, leaves, posts, Look, blind, communications, mutexes, looks}
 use Rattle.model.specs.Step.{actionAt}
 use Rattle.model.specs.Pair.{postAt}
+use Rattle.verdict.specs.Names.{Stands}
 
 -- a mark: one of a group's eight, for a mailbox or a mutex
 abbrev pub mark : ℕ → ℕ → ℕ
@@ -99,6 +100,12 @@ SmallLook own (mutexes l) = Each (λ m. m < 8) l
 -- ---- a step of a table
 
 module _ (table : List ℕ) where
+  -- what a look of an actor names stands in the table
+  abbrev pub LookStands : ℕ → Look → Type 0
+  LookStands a blind = Unit {0}
+  LookStands a (communications l) = Each (λ k. Stands table (name a k)) l
+  LookStands a (mutexes l) = Each (λ m. m < 8) l
+
   -- the marks of a step
   unfoldable pub marksOf : Name → ℕ
   marksOf x = bitOr (postMarks (posts (actionAt table x))) (lookMarks (postAt table (x .actor)) (looks (actionAt table x)))

@@ -10,7 +10,7 @@ ghost use Rattle.model.specs.Site.{name};
 ghost use Rattle.model.specs.Views.{posts, looks, listed as listedIn};
 ghost use Rattle.model.specs.Pair.{postAt};
 ghost use Rattle.verdict.specs.Names.{Stands};
-ghost use Rattle.verdict.specs.Marks.{mark as markOf, unlocking, awaitingUnlock, postMarks, postMeets, listedMarks, listedMeets, allOf, lookMarks, lookMeets, SmallPost, Each, SmallLook, marksOf, meetsOf};
+ghost use Rattle.verdict.specs.Marks.{mark as markOf, unlocking, awaitingUnlock, postMarks, postMeets, listedMarks, listedMeets, allOf, lookMarks, lookMeets, SmallPost, Each, LookStands, marksOf, meetsOf};
 use table::Action;
 use table::Numbers;
 
@@ -71,7 +71,7 @@ fn post(x: Action) -> Footprint
 
 // The footprint of what an action of an actor looks at.
 fn look(table: &[u8], a: usize, x: Action) -> Footprint
-    requires { ⌜ SmallLook (postAt (now table) a) (looks x) ⌝ }
+    requires { ⌜ Accepted (now table) × LookStands (now table) a (looks x) ⌝ }
     ensures { λ r. ⌜ (r .marks ≡ lookMarks (postAt (now (table .entry)) a) (looks x)) × (r .meets ≡ lookMeets (postAt (now (table .entry)) a) (looks x)) ⌝ }
 {
     match x {
@@ -97,7 +97,7 @@ fn look(table: &[u8], a: usize, x: Action) -> Footprint
 
 // The footprint of a list of communications of an actor.
 fn communications(table: &[u8], a: usize, list: Numbers) -> Footprint
-    requires { ⌜ Each (λ k. SmallPost (postAt (now table) a k)) (listedIn list) ⌝ }
+    requires { ⌜ Accepted (now table) × Each (λ k. Stands (now table) (name a k)) (listedIn list) ⌝ }
     ensures { λ r. ⌜ (r .marks ≡ allOf (λ k. listedMarks (postAt (now (table .entry)) a k)) (listedIn list))
         × (r .meets ≡ allOf (λ k. listedMeets (postAt (now (table .entry)) a k)) (listedIn list)) ⌝ }
 {
@@ -124,14 +124,14 @@ fn mutexes(list: Numbers) -> Footprint
 
 // One place of a list of `count` numbers: communication k, if the list has the place.
 fn communication(table: &[u8], a: usize, count: usize, place: usize, k: usize) -> Footprint
-    requires { ⌜ (place ≤ count → SmallPost (postAt (now table) a k)) ⌝ }
+    requires { ⌜ Accepted (now table) × (place ≤ count → Stands (now table) (name a k)) ⌝ }
     ensures { λ r. ⌜ (r .marks ≡ cond (leb place count) (listedMarks (postAt (now (table .entry)) a k)) 0)
         × (r .meets ≡ cond (leb place count) (listedMeets (postAt (now (table .entry)) a k)) 0) ⌝ }
 {
     if count < place {
         return Footprint { marks: 0, meets: 0 };
     }
-    listed(table::access::action(table, a, k))
+    listed(table::within::action(table, a, k))
 }
 
 // The same of mutex m, which awaits an Unlock.

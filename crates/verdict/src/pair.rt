@@ -1,6 +1,6 @@
 // The pair verdict: whether two steps are dependent, by a table of comparison codes.
 ghost use mathlib.Core.Path.{_≡_};
-ghost use Prim.Native.Nat.{_<_};
+ghost use Prim.Native.Nat.{_<_, _≤_};
 ghost use mathlib.Core.Bool.{_&&_};
 ghost use lib.Dec.{eqb, leb};
 ghost use Rattle.table.specs.Decode.{actionOf};
@@ -10,10 +10,10 @@ ghost use Rattle.model.specs.Site.{name};
 ghost use Rattle.model.specs.Views.{listed};
 ghost use Rattle.model.specs.Pair.{anyOf, depends};
 ghost use Rattle.verdict.specs.Codes.{kindOf, targetOf, listOf, isOn, codeOf, comparison};
+ghost use Rattle.verdict.specs.Marks.{Each};
 ghost use Rattle.verdict.specs.Names.{Stands};
 use table::Action;
 use table::Numbers;
-use table::access;
 use table::within;
 
 // Kind against kind, which comparison applies: 0 none, the two are independent; 1 one mailbox; 2 a listed Receive against a Send; 3 a listed Send
@@ -182,6 +182,7 @@ fn code(i: usize, j: usize) -> u8
 
 // What a code compares of x, of actor a, and y.
 fn compare(code: u8, table: &[u8], a: usize, x: Action, y: Action) -> bool
+    requires { ⌜ Accepted (now table) × (2 ≤ code → code ≤ 3 → Each (λ k. Stands (now table) (name a k)) (listOf x)) ⌝ }
     ensures { λ r. ⌜ r ≡ comparison code (actionOf (now (table .entry)) a) x y ⌝ }
 {
     match code {
@@ -196,6 +197,7 @@ fn compare(code: u8, table: &[u8], a: usize, x: Action, y: Action) -> bool
 
 // A list of actor a's actions names one of this kind on mailbox m.
 fn lists_mail(table: &[u8], a: usize, list: Numbers, kind: usize, m: usize) -> bool
+    requires { ⌜ Accepted (now table) × Each (λ k. Stands (now table) (name a k)) (listed list) ⌝ }
     ensures { λ r. ⌜ r ≡ anyOf (λ k. isOn kind m (actionOf (now (table .entry)) a k)) (listed list) ⌝ }
 {
     if mail_at(table, a, list.count, 1, list.n0, kind, m) {
@@ -220,12 +222,13 @@ fn mail_at(
     wanted: usize,
     m: usize,
 ) -> bool
+    requires { ⌜ Accepted (now table) × (place ≤ count → Stands (now table) (name a k)) ⌝ }
     ensures { λ r. ⌜ r ≡ leb place count && isOn wanted m (actionOf (now (table .entry)) a k) ⌝ }
 {
     if count < place {
         return false;
     }
-    let x = access::action(table, a, k);
+    let x = within::action(table, a, k);
     if kind(x) != wanted {
         return false;
     }

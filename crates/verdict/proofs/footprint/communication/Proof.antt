@@ -2,10 +2,12 @@
 -- Assumes nothing.
 use mathlib.Core.Path.{_∙_, ap, sym, subst}
 use Rattle.table.specs.declared.Action.{Action}
+use Rattle.model.specs.Site.{name}
 use Rattle.model.specs.Views.{posts}
 use Rattle.model.specs.Pair.{postAt}
 use Rattle.verdict.specs.Marks.{listedMarks, listedMeets, SmallPost}
 use Rattle.verdict.proofs.MarkPlaces.{beyond, within}
+use Rattle.verdict.proofs.MarkRanges.{small-post}
 use borrow.Author.Needs.{needs}
 use Rattle.verdict.proofs.footprint.communication.Statement.{statement}
 use Rattle.verdict.proofs.footprint.communication.Tie as tie
@@ -17,11 +19,16 @@ returns c =
     (beyond (x .count) (x .place) (listedMarks own) (c .if1 .taken), beyond (x .count) (x .place) (listedMeets own) (c .if1 .taken))
 
 action-requires : tie.Need-action-requires
-action-requires c κs = search needs
+action-requires c κs =
+    let p = c .before .before .pre in
+    let s = p .1 (c .if1 .left) in (p .0, s .0, s .1)
 
 listed-requires : tie.Need-listed-requires
 listed-requires c κs =
-    subst (λ (t : Action). SmallPost (posts t)) (sym (c .action .ensures)) (c .before .before .before .pre (c .before .if1 .left))
+    let x = c .before .before .before .args in
+    let p = c .before .before .before .pre in
+    subst (λ (t : Action). SmallPost (posts t)) (sym (c .action .ensures))
+    (small-post (x .table .now) (p .0) (name (x .a) (x .k)) (p .1 (c .before .if1 .left)))
 
 returns-2 : tie.Need-returns-2
 returns-2 c =

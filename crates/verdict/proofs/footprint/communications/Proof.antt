@@ -1,42 +1,39 @@
 -- `verdict::footprint::communications` meets its contract: the marks of the four places.
 -- Assumes nothing.
-use mathlib.Core.List.{[], _∷_}
 use native.Mathlib.Omega.{arith}
 use lib.Dec.{lit<}
+use Rattle.model.specs.Site.{name}
 use Rattle.model.specs.Pair.{postAt}
-use Rattle.verdict.specs.Marks.{listedMarks, listedMeets, SmallPost}
-use Rattle.verdict.proofs.MarkPlaces.{joined, each-at}
+use Rattle.verdict.specs.Names.{Stands}
+use Rattle.verdict.specs.Marks.{listedMarks, listedMeets}
+use Rattle.verdict.proofs.MarkPlaces.{joined, listed-at}
 use borrow.Author.Needs.{needs}
 use Rattle.verdict.proofs.footprint.communications.Statement.{statement}
 use Rattle.verdict.proofs.footprint.communications.Tie as tie
 
 communication-requires : tie.Need-communication-requires
-communication-requires c κs h =
+communication-requires c κs =
     let x = c .before .args in
-    let l = x .list in
-    each-at (λ k. SmallPost (postAt (x .table .now) (x .a) k)) (l .count) 0 (l .n0 ∷ l .n1 ∷ l .n2 ∷ l .n3 ∷ [])
-    (c .before .pre) (omega arith) (lit< tt)
+    let p = c .before .pre in
+    (p .0, λ h. listed-at (λ k. Stands (x .table .now) (name (x .a) k)) (x .list) 0 (p .1) (lit< tt) (omega (arith, h)))
 
 communication-requires-2 : tie.Need-communication-requires-2
-communication-requires-2 c κs h =
+communication-requires-2 c κs =
     let x = c .before .before .args in
-    let l = x .list in
-    each-at (λ k. SmallPost (postAt (x .table .now) (x .a) k)) (l .count) 1 (l .n0 ∷ l .n1 ∷ l .n2 ∷ l .n3 ∷ [])
-    (c .before .before .pre) (omega arith) (lit< tt)
+    let p = c .before .before .pre in
+    (p .0, λ h. listed-at (λ k. Stands (x .table .now) (name (x .a) k)) (x .list) 1 (p .1) (lit< tt) (omega (arith, h)))
 
 communication-requires-3 : tie.Need-communication-requires-3
-communication-requires-3 c κs h =
+communication-requires-3 c κs =
     let x = c .before .before .before .args in
-    let l = x .list in
-    each-at (λ k. SmallPost (postAt (x .table .now) (x .a) k)) (l .count) 2 (l .n0 ∷ l .n1 ∷ l .n2 ∷ l .n3 ∷ [])
-    (c .before .before .before .pre) (omega arith) (lit< tt)
+    let p = c .before .before .before .pre in
+    (p .0, λ h. listed-at (λ k. Stands (x .table .now) (name (x .a) k)) (x .list) 2 (p .1) (lit< tt) (omega (arith, h)))
 
 communication-requires-4 : tie.Need-communication-requires-4
-communication-requires-4 c κs h =
+communication-requires-4 c κs =
     let x = c .before .before .before .before .args in
-    let l = x .list in
-    each-at (λ k. SmallPost (postAt (x .table .now) (x .a) k)) (l .count) 3 (l .n0 ∷ l .n1 ∷ l .n2 ∷ l .n3 ∷ [])
-    (c .before .before .before .before .pre) (omega arith) (lit< tt)
+    let p = c .before .before .before .before .pre in
+    (p .0, λ h. listed-at (λ k. Stands (x .table .now) (name (x .a) k)) (x .list) 3 (p .1) (lit< tt) (omega (arith, h)))
 
 union-requires : tie.Need-union-requires
 union-requires c κs = search needs

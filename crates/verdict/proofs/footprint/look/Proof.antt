@@ -3,8 +3,7 @@
 use mathlib.Core.Path.{subst}
 use Rattle.table.specs.declared.Action.{Action}
 use Rattle.model.specs.Views.{looks}
-use Rattle.model.specs.Pair.{postAt}
-use Rattle.verdict.specs.Marks.{SmallLook}
+use Rattle.verdict.specs.Marks.{LookStands}
 use borrow.Author.Needs.{needs}
 use Rattle.verdict.proofs.footprint.look.Statement.{statement}
 use Rattle.verdict.proofs.footprint.look.Tie as tie
@@ -28,19 +27,23 @@ enum-known-x : tie.Need-enum-known-x
 enum-known-x c = search needs
 
 communications-requires : tie.Need-communications-requires
-communications-requires c κs =
-    subst (λ (t : Action). SmallLook (postAt (c .before .before .before .before .args .table .now) (c .before .before .before .before .args .a)) (looks t))
-    (c .before .x .given .1)
-    (c .before .before .before .before .pre)
+communications-requires c κs = (
+  c .before .before .before .before .pre .0,
+  subst (λ (t : Action). LookStands (c .before .before .before .before .args .table .now) (c .before .before .before .before .args .a) (looks t))
+      (c .before .x .given .1)
+      (c .before .before .before .before .pre .1),
+)
 
 enum-known-x-2 : tie.Need-enum-known-x-2
 enum-known-x-2 c = search needs
 
 communications-requires-2 : tie.Need-communications-requires-2
-communications-requires-2 c κs =
-    subst (λ (t : Action). SmallLook (postAt (c .before .before .before .before .args .table .now) (c .before .before .before .before .args .a)) (looks t))
-    (c .before .x2 .given .1)
-    (c .before .before .before .before .pre)
+communications-requires-2 c κs = (
+  c .before .before .before .before .pre .0,
+  subst (λ (t : Action). LookStands (c .before .before .before .before .args .table .now) (c .before .before .before .before .args .a) (looks t))
+      (c .before .x2 .given .1)
+      (c .before .before .before .before .pre .1),
+)
 
 enum-told-6 : tie.Need-enum-told-6
 enum-told-6 c = search needs
@@ -53,18 +56,18 @@ enum-known-x-3 c = search needs
 
 mutexes-requires : tie.Need-mutexes-requires
 mutexes-requires c κs =
-    subst (λ (t : Action). SmallLook (postAt (c .before .before .before .before .args .table .now) (c .before .before .before .before .args .a)) (looks t))
+    subst (λ (t : Action). LookStands (c .before .before .before .before .args .table .now) (c .before .before .before .before .args .a) (looks t))
     (c .before .x3 .given .1)
-    (c .before .before .before .before .pre)
+    (c .before .before .before .before .pre .1)
 
 enum-known-x-4 : tie.Need-enum-known-x-4
 enum-known-x-4 c = search needs
 
 mutexes-requires-2 : tie.Need-mutexes-requires-2
 mutexes-requires-2 c κs =
-    subst (λ (t : Action). SmallLook (postAt (c .before .before .before .before .args .table .now) (c .before .before .before .before .args .a)) (looks t))
+    subst (λ (t : Action). LookStands (c .before .before .before .before .args .table .now) (c .before .before .before .before .args .a) (looks t))
     (c .before .x4 .given .1)
-    (c .before .before .before .before .pre)
+    (c .before .before .before .before .pre .1)
 
 returns : tie.Need-returns
 returns c = search needs

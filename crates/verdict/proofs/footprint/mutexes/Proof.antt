@@ -1,34 +1,25 @@
 -- `verdict::footprint::mutexes` meets its contract: the marks of the four places.
 -- Assumes nothing.
 use Prim.Native.Nat.{_<_}
-use mathlib.Core.List.{[], _∷_}
 use native.Mathlib.Omega.{arith}
 use lib.Dec.{lit<}
 use Rattle.verdict.specs.Marks.{mark, unlocking, awaitingUnlock}
-use Rattle.verdict.proofs.MarkPlaces.{joined, each-at}
+use Rattle.verdict.proofs.MarkPlaces.{joined, listed-at}
 use borrow.Author.Needs.{needs}
 use Rattle.verdict.proofs.footprint.mutexes.Statement.{statement}
 use Rattle.verdict.proofs.footprint.mutexes.Tie as tie
 
 mutex-requires : tie.Need-mutex-requires
-mutex-requires c κs h =
-    let l = c .args .list in
-    each-at (λ m. m < 8) (l .count) 0 (l .n0 ∷ l .n1 ∷ l .n2 ∷ l .n3 ∷ []) (c .pre) (omega arith) (lit< tt)
+mutex-requires c κs h = listed-at (λ m. m < 8) (c .args .list) 0 (c .pre) (lit< tt) (omega (arith, h))
 
 mutex-requires-2 : tie.Need-mutex-requires-2
-mutex-requires-2 c κs h =
-    let l = c .before .args .list in
-    each-at (λ m. m < 8) (l .count) 1 (l .n0 ∷ l .n1 ∷ l .n2 ∷ l .n3 ∷ []) (c .before .pre) (omega arith) (lit< tt)
+mutex-requires-2 c κs h = listed-at (λ m. m < 8) (c .before .args .list) 1 (c .before .pre) (lit< tt) (omega (arith, h))
 
 mutex-requires-3 : tie.Need-mutex-requires-3
-mutex-requires-3 c κs h =
-    let l = c .before .before .args .list in
-    each-at (λ m. m < 8) (l .count) 2 (l .n0 ∷ l .n1 ∷ l .n2 ∷ l .n3 ∷ []) (c .before .before .pre) (omega arith) (lit< tt)
+mutex-requires-3 c κs h = listed-at (λ m. m < 8) (c .before .before .args .list) 2 (c .before .before .pre) (lit< tt) (omega (arith, h))
 
 mutex-requires-4 : tie.Need-mutex-requires-4
-mutex-requires-4 c κs h =
-    let l = c .before .before .before .args .list in
-    each-at (λ m. m < 8) (l .count) 3 (l .n0 ∷ l .n1 ∷ l .n2 ∷ l .n3 ∷ []) (c .before .before .before .pre) (omega arith) (lit< tt)
+mutex-requires-4 c κs h = listed-at (λ m. m < 8) (c .before .before .before .args .list) 3 (c .before .before .before .pre) (lit< tt) (omega (arith, h))
 
 union-requires : tie.Need-union-requires
 union-requires c κs = search needs

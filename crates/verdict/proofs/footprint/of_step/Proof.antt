@@ -6,8 +6,8 @@ use Rattle.table.specs.declared.Action.{Action}
 use Rattle.model.specs.Site.{name}
 use Rattle.model.specs.Views.{posts, looks}
 use Rattle.model.specs.Pair.{postAt}
-use Rattle.verdict.specs.Marks.{postMarks, postMeets, lookMarks, lookMeets, SmallPost, SmallLook, marksOf, meetsOf}
-use Rattle.verdict.proofs.MarkRanges.{small-post, small-look}
+use Rattle.verdict.specs.Marks.{postMarks, postMeets, lookMarks, lookMeets, SmallPost, LookStands, marksOf, meetsOf}
+use Rattle.verdict.proofs.MarkRanges.{small-post, look-stands}
 use borrow.Author.Needs.{needs}
 use Rattle.verdict.proofs.footprint.of_step.Statement.{statement}
 use Rattle.verdict.proofs.footprint.of_step.Tie as tie
@@ -24,9 +24,11 @@ post-requires c κs =
 look-requires : tie.Need-look-requires
 look-requires c κs =
     let x = c .before .before .before .args in
-    let p = c .before .before .before .pre in
-    subst (λ (t : Action). SmallLook (postAt (x .table .now) (x .a)) (looks t)) (sym (c .before .action .ensures))
-    (small-look (x .table .now) (p .0) (name (x .a) (x .k)) (p .1))
+    let p = c .before .before .before .pre in (
+      p .0,
+      subst (λ (t : Action). LookStands (x .table .now) (x .a) (looks t)) (sym (c .before .action .ensures))
+          (look-stands (x .table .now) (p .0) (name (x .a) (x .k)) (p .1)),
+    )
 
 returns : tie.Need-returns
 unfolding marksOf meetsOf

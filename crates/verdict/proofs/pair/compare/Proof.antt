@@ -1,15 +1,19 @@
 -- `verdict::pair::compare` meets its contract: each arm's code says which comparison is asked for.
 -- Assumes nothing.
 use Prim.Native.Nat.{ℕ, zero, suc}
-use mathlib.Core.Path.{_≡_, refl, _∙_, sym, ap, ap₂}
+use native.Mathlib.Omega.{arith}
+use mathlib.Core.Path.{_≡_, refl, _∙_, sym, ap, ap₂, subst}
 use mathlib.Core.Bool.{false}
 use mathlib.Core.List.{List}
 use lib.Dec.{eqb}
 use Rattle.table.specs.declared.Action.{Action}
 use Rattle.table.specs.Decode.{actionOf}
 use Rattle.trace.specs.Theorems.{has}
+use Rattle.model.specs.Site.{name}
 use Rattle.model.specs.Pair.{anyOf}
 use Rattle.verdict.specs.Codes.{isOn, comparison}
+use Rattle.verdict.specs.Marks.{Each}
+use Rattle.verdict.specs.Names.{Stands}
 use borrow.Author.Needs.{needs}
 use Rattle.verdict.proofs.pair.compare.Statement.{statement}
 use Rattle.verdict.proofs.pair.compare.Tie as tie
@@ -38,7 +42,11 @@ target-requires-3 : tie.Need-target-requires-3
 target-requires-3 c κs = search needs
 
 lists-mail-requires : tie.Need-lists-mail-requires
-lists-mail-requires c κs = search needs
+lists-mail-requires c κs =
+    let x = c .before .before .before .before .args in
+    let p = c .before .before .before .before .pre in
+    let code = c .before .before .match .keys2 in
+    (p .0, subst (Each (λ k. Stands (x .table .now) (name (x .a) k))) (sym (c .before .list .ensures)) (p .1 (omega (arith, code)) (omega (arith, code))))
 
 list-requires-2 : tie.Need-list-requires-2
 list-requires-2 c κs = search needs
@@ -47,7 +55,11 @@ target-requires-4 : tie.Need-target-requires-4
 target-requires-4 c κs = search needs
 
 lists-mail-requires-2 : tie.Need-lists-mail-requires-2
-lists-mail-requires-2 c κs = search needs
+lists-mail-requires-2 c κs =
+    let x = c .before .before .before .before .args in
+    let p = c .before .before .before .before .pre in
+    let code = c .before .before .match .keys3 in
+    (p .0, subst (Each (λ k. Stands (x .table .now) (name (x .a) k))) (sym (c .before .list2 .ensures)) (p .1 (omega (arith, code)) (omega (arith, code))))
 
 target-requires-5 : tie.Need-target-requires-5
 target-requires-5 c κs = search needs

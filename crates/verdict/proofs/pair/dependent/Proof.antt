@@ -6,6 +6,7 @@ use Rattle.model.specs.Site.{name}
 use Rattle.model.proofs.FourCases.{depends-own}
 use Rattle.verdict.proofs.CodeKinds.{kind-under}
 use Rattle.verdict.proofs.CodeLaw.{higher-first, lower-first}
+use Rattle.verdict.proofs.CodeRanges.{own-listed}
 use borrow.Author.Needs.{needs}
 use Rattle.verdict.proofs.pair.dependent.Statement.{statement}
 use Rattle.verdict.proofs.pair.dependent.Tie as tie
@@ -34,7 +35,13 @@ code-requires c κs = (
 )
 
 compare-requires : tie.Need-compare-requires
-compare-requires c κs = search needs
+compare-requires c κs =
+    let x = c .before .before .before .before .before .before .before .before .args in
+    let p = c .before .before .before .before .before .before .before .before .pre in (
+      p .0,
+      own-listed (x .table .now) (p .0) (name (x .b) (x .l)) (p .2) (c .before .before .before .before .action2 .ensures) (c .before .before .kind2 .ensures)
+          (omega (arith, c .before .before .before .kind .ensures, kind-under (c .before .before .before .before .before .action .result))) (c .before .code .ensures .1),
+    )
 
 returns-2 : tie.Need-returns-2
 returns-2 c =
@@ -48,7 +55,13 @@ returns-2 c =
     (c .before .if2 .taken) (c .compare .ensures)
 
 compare-requires-2 : tie.Need-compare-requires-2
-compare-requires-2 c κs = search needs
+compare-requires-2 c κs =
+    let x = c .before .before .before .before .before .before .before .before .args in
+    let p = c .before .before .before .before .before .before .before .before .pre in (
+      p .0,
+      own-listed (x .table .now) (p .0) (name (x .a) (x .k)) (p .1) (c .before .before .before .before .before .action .ensures) (c .before .before .before .kind .ensures)
+          (omega (arith, c .before .before .kind2 .ensures, kind-under (c .before .before .before .before .action2 .result))) (c .before .code .ensures .0),
+    )
 
 returns-3 : tie.Need-returns-3
 returns-3 c =

@@ -2,15 +2,22 @@
 -- Assumes nothing.
 use Prim.Native.Nat.{ℕ}
 use mathlib.Core.Bool.{Bool}
-use borrow.Author.Needs.{needs}
+use native.Mathlib.Omega.{arith}
+use lib.Dec.{lit<}
 use Rattle.table.specs.Decode.{actionOf}
+use Rattle.model.specs.Site.{name}
 use Rattle.verdict.specs.Codes.{isOn}
+use Rattle.verdict.specs.Names.{Stands}
 use Rattle.verdict.proofs.ListPlaces.{at-first, at-second, at-third, at-fourth}
+use Rattle.verdict.proofs.MarkPlaces.{listed-at}
 use Rattle.verdict.proofs.pair.lists_mail.Statement.{statement}
 use Rattle.verdict.proofs.pair.lists_mail.Tie as tie
 
 mail-at-requires : tie.Need-mail-at-requires
-mail-at-requires c κs = search needs
+mail-at-requires c κs =
+    let x = c .before .args in
+    let p = c .before .pre in
+    (p .0, λ h. listed-at (λ k. Stands (x .table .now) (name (x .a) k)) (x .list) 0 (p .1) (lit< tt) (omega (arith, h)))
 
 returns : tie.Need-returns
 returns c =
@@ -19,7 +26,10 @@ returns c =
     at-first test (x .list) (c .before .mail-at .ensures) (c .if1 .taken)
 
 mail-at-requires-2 : tie.Need-mail-at-requires-2
-mail-at-requires-2 c κs = search needs
+mail-at-requires-2 c κs =
+    let x = c .before .before .before .args in
+    let p = c .before .before .before .pre in
+    (p .0, λ h. listed-at (λ k. Stands (x .table .now) (name (x .a) k)) (x .list) 1 (p .1) (lit< tt) (omega (arith, h)))
 
 returns-2 : tie.Need-returns-2
 returns-2 c =
@@ -30,7 +40,10 @@ returns-2 c =
     (c .before .mail-at2 .ensures) (c .if2 .taken)
 
 mail-at-requires-3 : tie.Need-mail-at-requires-3
-mail-at-requires-3 c κs = search needs
+mail-at-requires-3 c κs =
+    let x = c .before .before .before .before .before .args in
+    let p = c .before .before .before .before .before .pre in
+    (p .0, λ h. listed-at (λ k. Stands (x .table .now) (name (x .a) k)) (x .list) 2 (p .1) (lit< tt) (omega (arith, h)))
 
 returns-3 : tie.Need-returns-3
 returns-3 c =
@@ -42,7 +55,10 @@ returns-3 c =
     (c .before .mail-at3 .ensures) (c .if3 .taken)
 
 mail-at-requires-4 : tie.Need-mail-at-requires-4
-mail-at-requires-4 c κs = search needs
+mail-at-requires-4 c κs =
+    let x = c .before .before .before .before .before .before .before .args in
+    let p = c .before .before .before .before .before .before .before .pre in
+    (p .0, λ h. listed-at (λ k. Stands (x .table .now) (name (x .a) k)) (x .list) 3 (p .1) (lit< tt) (omega (arith, h)))
 
 returns-4 : tie.Need-returns-4
 returns-4 c =

@@ -13,7 +13,9 @@ returns : tie.Need-returns
 returns c = rw (lt-leb (c .before .before .args .place) (c .before .before .args .count) (c .if1 .taken))
 
 action-requires : tie.Need-action-requires
-action-requires c κs = search needs
+action-requires c κs =
+    let p = c .before .before .pre in
+    let s = p .1 (c .if1 .left) in (p .0, s .0, s .1)
 
 kind-requires : tie.Need-kind-requires
 kind-requires c κs = search needs

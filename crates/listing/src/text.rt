@@ -1,0 +1,65 @@
+// Text at the front of a lent part: bytes, numbers in decimal, and both. Each writer answers with the length of what it wrote.
+ghost use mathlib.Core.Path.{_≡_};
+ghost use mathlib.Core.List.{[], _∷_, _++_};
+ghost use Prim.Native.Nat.{_+_, _<_, _≤_};
+ghost use lib.ListN.{length};
+ghost use Rattle.model.specs.Listing.{decimal as decimalOf, digit as digitOf, line};
+ghost use Rattle.engine.specs.ReportParts.{Wrote};
+
+pub fn put(text: &[u8], buf: &mut [u8]) -> usize
+    requires { ⌜ length (now text) ≤ length (now buf) ⌝ }
+    ensures { λ r. ⌜ Wrote (now (buf .entry)) (now (text .entry)) (now (buf .exit)) r ⌝ }
+{
+    let mut i = 0;
+    while i < text.len() {
+        buf[i] = text[i];
+        i += 1;
+    }
+    i
+}
+
+// A number in decimal.
+pub fn decimal(x: u32, buf: &mut [u8]) -> usize
+    requires { ⌜ length (decimalOf x) ≤ length (now buf) ⌝ }
+    ensures { λ r. ⌜ Wrote (now (buf .entry)) (decimalOf x) (now (buf .exit)) r ⌝ }
+{
+    if x < 10 {
+        buf[0] = digit(x);
+        return 1;
+    }
+    let at = decimal(x / 10, buf);
+    buf[at] = digit(x % 10);
+    at + 1
+}
+
+fn digit(x: u32) -> u8
+    requires { ⌜ x < 10 ⌝ }
+    ensures { λ r. ⌜ r ≡ digitOf x ⌝ }
+{
+    48 + x as u8
+}
+
+// A label, and a number after it.
+pub fn labelled(label: &[u8], x: u32, buf: &mut [u8]) -> usize
+    requires { ⌜ length (now label ++ decimalOf x) ≤ length (now buf) ⌝ }
+    ensures { λ r. ⌜ Wrote (now (buf .entry)) (now (label .entry) ++ decimalOf x) (now (buf .exit)) r ⌝ }
+{
+    let at = put(label, buf);
+    at + decimal(x, &mut buf[at..])
+}
+
+// The same at a line's end.
+pub fn ended(label: &[u8], x: u32, buf: &mut [u8]) -> usize
+    requires { ⌜ length (line (now label ++ decimalOf x)) ≤ length (now buf) ⌝ }
+    ensures { λ r. ⌜ Wrote (now (buf .entry)) (line (now (label .entry) ++ decimalOf x)) (now (buf .exit)) r ⌝ }
+{
+    let at = labelled(label, x, buf);
+    buf[at] = b'\n';
+    at + 1
+}
+
+pub fn wide(x: u8) -> u32
+    ensures { λ r. ⌜ r ≡ x ⌝ }
+{
+    x as u32
+}

@@ -1,0 +1,45 @@
+-- Decimal numbers: a number below 10 is its digit, any other its tenth and then its last digit; and how many digits there are.
+-- Assumes nothing.
+use mathlib.Core.Path.{_≡_, refl, _∙_, ap, subst}
+use mathlib.Core.Bool.{Bool, true, false, cond}
+use mathlib.Core.Logic.{_⊎_, inl, inr}
+use mathlib.Core.List.{List, [], _∷_, _++_}
+use Prim.Native.Nat.{ℕ, zero, suc, _+_, _*_, _/_, _%_, _^_, _<_, _≤_}
+use native.Mathlib.Nat.{pow-succ'}
+use native.Mathlib.Omega.{arith}
+use borrow.Author.Tests.{lt-ltb, le-ltb, ltb-true, ltb-false}
+use lib.Dec.{ltb}
+use lib.ListN.{length, length-append}
+use Rattle.trace.proofs.Bools.{which}
+use Rattle.model.specs.Listing.{digit, digits, decimal}
+
+-- more rounds than digits change nothing
+enough : (f g n : ℕ) → n < f → n < g → digits f n ≡ digits g n
+enough zero g n h k = absurd (omega arith)
+enough (suc f) zero n h k = absurd (omega arith)
+enough (suc f) (suc g) n h k = go (which (ltb n 10)) (λ big. enough f g (n / 10) (omega arith) (omega arith))
+  where
+    go : (ltb n 10 ≡ true) ⊎ (ltb n 10 ≡ false) → (10 ≤ n → digits f (n / 10) ≡ digits g (n / 10)) → digits (suc f) n ≡ digits (suc g) n
+    go (inl e) more = rw e
+    go (inr e) more = rw e (ap (λ (l : List ℕ). l ++ (digit (n % 10) ∷ [])) (more (ltb-false n 10 e)))
+
+pub decimal-small : (n : ℕ) → n < 10 → decimal n ≡ digit n ∷ []
+decimal-small n h = rw (lt-ltb n 10 h)
+
+pub decimal-more : (n : ℕ) → 10 ≤ n → decimal n ≡ decimal (n / 10) ++ (digit (n % 10) ∷ [])
+decimal-more n h =
+    rw (le-ltb n 10 h) (ap (λ (l : List ℕ). l ++ (digit (n % 10) ∷ [])) (enough n (suc (n / 10)) (n / 10) (omega arith) (omega arith)))
+
+tenth : (m n : ℕ) → n < 10 * m → n / 10 < m
+tenth m n h = omega arith
+
+-- a number below 10^(k + 1) has at most k + 1 digits
+pub decimal-most : (k n : ℕ) → n < 10 * 10 ^ k → length (decimal n) ≤ suc k
+decimal-most zero n h = rw (decimal-small n (omega arith)) (omega arith)
+decimal-most (suc k) n h = go (which (ltb n 10)) (λ big. decimal-most k (n / 10) (tenth (10 * 10 ^ k) n (subst (λ (m : ℕ). n < 10 * m) (pow-succ' 10 k) h)))
+  where
+    go : (ltb n 10 ≡ true) ⊎ (ltb n 10 ≡ false) → (10 ≤ n → length (decimal (n / 10)) ≤ suc k) → length (decimal n) ≤ suc (suc k)
+    go (inl e) more = rw (decimal-small n (ltb-true n 10 e)) (omega arith)
+    go (inr e) more =
+        let big : 10 ≤ n = ltb-false n 10 e in
+        rw (decimal-more n big, length-append) (omega (arith, more big))

@@ -1,0 +1,17 @@
+-- What `specs/Forecourt.antt` claims of the small forecourt: one proof, by computation.
+-- Assumes nothing.
+use mathlib.Core.Path.{refl}
+use Rattle.table.specs.Decode.{decodeAs}
+use Rattle.table.specs.Read.{readOf}
+use Rattle.trace.specs.Same.{same}
+use Rattle.model.specs.Site.{initial}
+use Rattle.model.specs.Local.{cellsAfter}
+use Rattle.model.specs.Step.{ready, step}
+use Rattle.model.specs.Pair.{depends}
+use Rattle.model.specs.Calls.{pairOf, sameOf}
+use Rattle.model.specs.Claims.{AllHold}
+use Rattle.model.specs.Forecourt.{receipts}
+
+pub receipts-hold : AllHold receipts
+unfolding pairOf sameOf readOf decodeAs initial ready step cellsAfter depends same
+receipts-hold = refl
