@@ -4,7 +4,7 @@ use mathlib.Core.Path.{_≡_, refl, _∙_, ap, sym}
 use mathlib.Core.Bool.{Bool, true, false}
 use mathlib.Core.Logic.{_⊎_, inl, inr}
 use mathlib.Core.List.{List, [], _∷_}
-use Prim.Native.Nat.{ℕ, zero, suc, _+_, _*_, _<_, _≤_}
+use Prim.Native.Nat.{ℕ, zero, suc, _+_, _*_, _%_, _^_, _<_, _≤_}
 use native.Mathlib.Omega.{arith}
 use borrow.Author.Tests.{eq-eqb, eqb-true, ltb-true, ltb-false}
 use lib.Dec.{eqb, ltb, lit<}
@@ -17,6 +17,15 @@ use Rattle.table.proofs.Checks.{which, demand-true, each-at}
 -- 256 to the power of 0, 1, 2, 3 and 4
 abbrev pub powers : List ℕ
 powers = 1 ∷ 256 ∷ 65536 ∷ 16777216 ∷ 4294967296 ∷ []
+
+-- as a shift gives them
+pub shifted : (from : ℕ) → from ≤ 4 → 1 * 2 ^ (8 * from) % 18446744073709551616 ≡ getD powers from 0
+shifted zero h = refl
+shifted (suc zero) h = refl
+shifted (suc (suc zero)) h = refl
+shifted (suc (suc (suc zero))) h = refl
+shifted (suc (suc (suc (suc zero)))) h = refl
+shifted (suc (suc (suc (suc (suc from))))) h = absurd (omega arith)
 
 module _ (b : List ℕ) (at : ℕ) where
   abbrev L : ℕ → ℕ

@@ -6,7 +6,7 @@ ghost use Rattle.table.specs.Outcome.{each, _⨾_};
 ghost use Rattle.table.specs.Format.{mailboxesOf, mutexesOf};
 ghost use Rattle.table.specs.Read.{entryOf, endOf, actionsOf, checkOf};
 ghost use Rattle.table.specs.Answer.{outcome};
-ghost use Rattle.table.specs.Parts.{Header, Inside, tableMost, limitsOf};
+ghost use Rattle.table.specs.Parts.{Header, Inside, tableMost, limitsOf, qUnder, valueUnder};
 use crate::Reading;
 use crate::bytes;
 use crate::fields;
@@ -44,11 +44,22 @@ fn all(t: &[u8], actors: usize, mailboxes: usize, mutexes: usize) -> Reading
     let m = t[2];
     let x = t[3];
     let limits = [8, 8, 8, m, m, 8, 8, x, x, 8, 8];
+    let seconds = [1, 8, 8, 8, 8, 0, 0, 1, 1, 0, 0];
+    let values = [4294967296, 1, 1, 1, 1, 0, 0, 1, 1, 0, 0];
     let mut a = 0;
     while a < actors {
         let first = bytes::word(t, 4 + 4 * a);
         let count = bytes::word(t, 6 + 4 * a);
-        let r = own(t, first, count, mailboxes, mutexes, &limits);
+        let r = own(
+            t,
+            first,
+            count,
+            mailboxes,
+            mutexes,
+            &limits,
+            &seconds,
+            &values,
+        );
         let Reading::Accepted = r else {
             return r;
         };
@@ -65,14 +76,16 @@ fn own(
     mailboxes: usize,
     mutexes: usize,
     limits: &[u8; 11],
+    seconds: &[u8; 11],
+    values: &[usize; 11],
 ) -> Reading
     requires { ⌜ (first + 8 * count ≤ length (now t)) × (mailboxes ≡ mailboxesOf (now t)) × (mutexes ≡ mutexesOf (now t))
-        × (length (now t) ≤ tableMost) × (now limits ≡ limitsOf (now t)) ⌝ }
+        × (length (now t) ≤ tableMost) × (now limits ≡ limitsOf (now t)) × (now seconds ≡ qUnder) × (now values ≡ valueUnder) ⌝ }
     ensures { λ r. ⌜ outcome r ≡ each (checkOf (now (t .entry)) first) count 0 ⌝ }
 {
     let mut k = 0;
     while k < count {
-        let r = fields::check(t, first, k, mailboxes, mutexes, limits);
+        let r = fields::check(t, first, k, mailboxes, mutexes, limits, seconds, values);
         let Reading::Accepted = r else {
             return r;
         };

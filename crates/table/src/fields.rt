@@ -8,18 +8,9 @@ ghost use Rattle.table.specs.Format.{mailboxesOf, mutexesOf, valueAt, pl
 ghost use Rattle.table.specs.Kinds.{form, cell, unused, value};
 ghost use Rattle.table.specs.Read.{checkOf, fieldsOf, blanks};
 ghost use Rattle.table.specs.Answer.{outcome};
-ghost use Rattle.table.specs.Parts.{Room, Plain, limitsOf, pairOf, loneOf, allBelow, allPosts, listOf};
+ghost use Rattle.table.specs.Parts.{Room, Plain, limitsOf, qUnder, valueUnder, pairOf, loneOf, allBelow, allPosts, listOf};
 use crate::Reading;
 use crate::bytes;
-
-// By kind: what q lies under where the kind has no list, and what b4 to b7 as one number lie under. Nothing lies under 0: a list is looked at
-// by itself.
-const Q_UNDER: [u8; 11] = [1, 8, 8, 8, 8, 0, 0, 1, 1, 0, 0];
-
-const VALUE_UNDER: [usize; 11] = [4294967296, 1, 1, 1, 1, 0, 0, 1, 1, 0, 0];
-
-// By a list's length: what b4 to b7 as one number lie under where the bytes after the list are 0.
-const LIST_UNDER: [usize; 5] = [1, 256, 65536, 16777216, 4294967296];
 
 // An action. Most have no list and nothing wrong, which a few tests without a branch by kind show.
 pub fn check(
@@ -29,20 +20,23 @@ pub fn check(
     mailboxes: usize,
     mutexes: usize,
     limits: &[u8; 11],
+    seconds: &[u8; 11],
+    values: &[usize; 11],
 ) -> Reading
     requires { ⌜ Room (now t) (placeOf first k) × (mailboxes ≡ mailboxesOf (now t)) × (mutexes ≡ mutexesOf (now t))
-        × (now limits ≡ limitsOf (now t)) ⌝ }
+        × (now limits ≡ limitsOf (now t)) × (now seconds ≡ qUnder) × (now values ≡ valueUnder) ⌝ }
     ensures { λ r. ⌜ outcome r ≡ checkOf (now (t .entry)) first k ⌝ }
 {
-    if plain(t, first + 8 * k, limits) {
+    if plain(t, first + 8 * k, limits, seconds, values) {
         return Reading::Accepted;
     }
     exact(t, first, k, mailboxes, mutexes)
 }
 
-// An action without a list that has nothing wrong.
-fn plain(t: &[u8], at: usize, limits: &[u8; 11]) -> bool
-    requires { ⌜ Room (now t) at × (length (now limits) ≡ 11) ⌝ }
+// An action without a list that has nothing wrong. By kind, `limits` is what p lies under, `seconds` what q does, and `values` what b4 to b7 as
+// one number do; nothing lies under 0, so that a list is looked at by itself.
+fn plain(t: &[u8], at: usize, limits: &[u8; 11], seconds: &[u8; 11], values: &[usize; 11]) -> bool
+    requires { ⌜ Room (now t) at × (length (now limits) ≡ 11) × (now seconds ≡ qUnder) × (now values ≡ valueUnder) ⌝ }
     ensures { λ r. ⌜ (r ≡ true → Plain (now (t .entry)) at (now (limits .entry))) ⌝ }
 {
     let kind = bytes::wide(t[at]);
@@ -52,13 +46,13 @@ fn plain(t: &[u8], at: usize, limits: &[u8; 11]) -> bool
     if limits[kind] <= t[at + 1] {
         return false;
     }
-    if Q_UNDER[kind] <= t[at + 2] {
+    if seconds[kind] <= t[at + 2] {
         return false;
     }
     if t[at + 3] != 0 {
         return false;
     }
-    value_at(t, at) < VALUE_UNDER[kind]
+    value_at(t, at) < values[kind]
 }
 
 // b4 to b7 as one number.
@@ -205,7 +199,7 @@ fn blank(t: &[u8], at: usize, from: usize) -> bool
     requires { ⌜ Room (now t) at × (from ≤ 4) ⌝ }
     ensures { λ r. ⌜ demand r 9 at ≡ blanks (now (t .entry)) at from ⌝ }
 {
-    value_at(t, at) < LIST_UNDER[from]
+    value_at(t, at) < 1usize << (8 * from)
 }
 
 // The first z numbers of a list are below a limit.

@@ -12,10 +12,10 @@ use Rattle.table.proofs.entries.all.Statement.{statement}
 use Rattle.table.proofs.entries.all.Tie as tie
 
 abbrev Inv-loop : tie.InvT-loop
-Inv-loop t actors mailboxes mutexes m x limits a₀ a = (a ≤ actors) × (each (actorOf t) actors 0 ≡ each (actorOf t) (actors - a) a)
+Inv-loop t actors mailboxes mutexes m x limits seconds values a₀ a = (a ≤ actors) × (each (actorOf t) actors 0 ≡ each (actorOf t) (actors - a) a)
 
 abbrev μ-loop : tie.MeasureT-loop
-μ-loop t actors mailboxes mutexes m x limits a₀ a = actors - a
+μ-loop t actors mailboxes mutexes m x limits seconds values a₀ a = actors - a
 
 shared-slice-read-m : tie.Need-shared-slice-read-m Inv-loop μ-loop
 shared-slice-read-m c = search needs
@@ -48,26 +48,26 @@ word-requires-2 c κs = search needs
 
 own-requires : tie.Need-own-requires Inv-loop μ-loop
 own-requires c κs =
-    let p = c .before .before .before .before .before .before .before .before .pre in
+    let p = c .before .before .before .before .before .before .before .before .before .before .pre in
     let h = p .0 in
-    let inside = p .1 .end (c .before .before .before .before .loop .a) (omega (arith, h .actors-read)) in
-    (omega (arith, inside, c .before .before .word .ensures .0, c .before .word2 .ensures .0), h .mailboxes-read, h .mutexes-read, p .2, refl)
+    let inside = p .1 .end (c .before .before .before .before .before .before .loop .a) (omega (arith, h .actors-read)) in
+    (omega (arith, inside, c .before .before .before .before .word .ensures .0, c .before .before .before .word2 .ensures .0), h .mailboxes-read, h .mutexes-read, p .2, refl, refl, refl)
 
 enum-told : tie.Need-enum-told Inv-loop μ-loop
 enum-told c = c .match .keys1
 
 returns : tie.Need-returns Inv-loop μ-loop
 returns c =
-    let a = c .before .before .before .before .before .before .before .before .before .before .args in
-    let l = c .before .before .before .before .before .before .loop in
+    let a = c .before .before .before .before .before .before .before .before .before .before .before .before .args in
+    let l = c .before .before .before .before .before .before .before .before .loop in
     sym
     (l .inv .1
-    ∙ each-reads (actorOf (a .t .now)) (a .actors) (l .a) (c .before .before .before .before .before .loop-test .taken)
+    ∙ each-reads (actorOf (a .t .now)) (a .actors) (l .a) (c .before .before .before .before .before .before .before .loop-test .taken)
     (c .before .own .result) (c .before .own .ensures ∙ ap₂ (λ (first count : ℕ). each (checkOf (a .t .now) first) count 0)
-    (c .before .before .before .before .word .ensures .0) (c .before .before .before .word2 .ensures .0))
+    (c .before .before .before .before .before .before .word .ensures .0) (c .before .before .before .before .before .word2 .ensures .0))
     (c .match .keys2))
     ∙ ap (λ (n : ℕ). each (actorOf (a .t .now)) n 0)
-    (c .before .before .before .before .before .before .before .before .before .before .pre .0 .actors-read)
+    (c .before .before .before .before .before .before .before .before .before .before .before .before .pre .0 .actors-read)
 
 add-a : tie.Need-add-a Inv-loop μ-loop
 add-a c = search needs
@@ -77,13 +77,13 @@ loop-less c = search needs
 
 loop-again : tie.Need-loop-again Inv-loop μ-loop
 loop-again c =
-    let a = c .before .before .before .before .before .before .before .before .before .before .before .args in
-    let l = c .before .before .before .before .before .before .before .loop in (
+    let a = c .before .before .before .before .before .before .before .before .before .before .before .before .before .args in
+    let l = c .before .before .before .before .before .before .before .before .before .loop in (
       omega arith,
       l .inv .1
-          ∙ each-go (actorOf (a .t .now)) (a .actors) (l .a) (c .before .before .before .before .before .before .loop-test .taken)
+          ∙ each-go (actorOf (a .t .now)) (a .actors) (l .a) (c .before .before .before .before .before .before .before .before .loop-test .taken)
           (sym (c .before .before .own .ensures ∙ ap₂ (λ (first count : ℕ). each (checkOf (a .t .now) first) count 0)
-          (c .before .before .before .before .before .word .ensures .0) (c .before .before .before .before .word2 .ensures .0)) ∙ accepts
+          (c .before .before .before .before .before .before .before .word .ensures .0) (c .before .before .before .before .before .before .word2 .ensures .0)) ∙ accepts
           (c .before .before .own .result) (c .before .match .keys1)),
     )
 

@@ -12,10 +12,10 @@ use Rattle.table.proofs.entries.own.Statement.{statement}
 use Rattle.table.proofs.entries.own.Tie as tie
 
 abbrev Inv-loop : tie.InvT-loop
-Inv-loop t first count mailboxes mutexes limits k₀ k = (k ≤ count) × (each (checkOf t first) count 0 ≡ each (checkOf t first) (count - k) k)
+Inv-loop t first count mailboxes mutexes limits seconds values k₀ k = (k ≤ count) × (each (checkOf t first) count 0 ≡ each (checkOf t first) (count - k) k)
 
 abbrev μ-loop : tie.MeasureT-loop
-μ-loop t first count mailboxes mutexes limits k₀ k = count - k
+μ-loop t first count mailboxes mutexes limits seconds values k₀ k = count - k
 
 loop-holds : tie.Need-loop-holds Inv-loop μ-loop
 loop-holds c =
@@ -25,7 +25,7 @@ loop-holds c =
 check-requires : tie.Need-check-requires Inv-loop μ-loop
 check-requires c κs =
     let p = c .before .before .before .pre in
-    ((omega arith, p .3), p .1, p .2, p .4)
+    ((omega arith, p .3), p .1, p .2, p .4, p .5, p .6)
 
 enum-told : tie.Need-enum-told Inv-loop μ-loop
 enum-told c = c .match .keys1

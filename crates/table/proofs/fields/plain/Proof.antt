@@ -5,8 +5,8 @@ use mathlib.Core.Bool.{false≢true}
 use Prim.Native.Nat.{ℕ, _<_}
 use borrow.Author.Tests.{ltb-true}
 use lib.ListN.{getD}
-use Rattle.table.specs.Format.{pAt, qAt}
-use Rattle.table.specs.Parts.{qUnder, valueUnder}
+use mathlib.Core.List.{List}
+use Rattle.table.specs.Format.{kindAt, pAt, qAt, valueAt}
 use borrow.Author.Needs.{needs}
 use Rattle.table.proofs.fields.plain.Statement.{statement}
 use Rattle.table.proofs.fields.plain.Tie as tie
@@ -32,8 +32,8 @@ shared-slice-read-if2 c = search needs
 returns-2 : tie.Need-returns-2
 returns-2 c = λ e. absurd (false≢true e)
 
-array-read-if3 : tie.Need-array-read-if3
-array-read-if3 c = search needs
+element-copy-out-if3 : tie.Need-element-copy-out-if3
+element-copy-out-if3 c = search needs
 
 add-if3 : tie.Need-add-if3
 add-if3 c = search needs
@@ -59,20 +59,21 @@ value-at-requires c κs = search needs
 mul-result : tie.Need-mul-result
 mul-result c = search needs
 
-array-read-result : tie.Need-array-read-result
-array-read-result c = search needs
+element-copy-out-result : tie.Need-element-copy-out-result
+element-copy-out-result c = search needs
 
 returns-5 : tie.Need-returns-5
 returns-5 c =
-    let a = c .before .before .before .before .before .before .before .before .before .before .before .before .args in
-    let kind = c .before .before .before .before .before .before .before .before .before .wide .ensures .0 in
+    let a = c .before .before .before .before .before .before .before .before .before .before .before .before .before .before .args in
+    let p = c .before .before .before .before .before .before .before .before .before .before .before .before .before .before .pre in
+    let kind = c .before .before .before .before .before .before .before .before .before .before .before .wide .ensures .0 in
     λ e. record {
-      p-under =
-          subst (λ (n : ℕ). pAt (a .t .now) (a .at) < getD (a .limits .now) n 0) kind
-          (c .before .before .before .before .before .if2 .left);
-      q-under = subst (λ (n : ℕ). qAt (a .t .now) (a .at) < getD qUnder n 0) kind (c .before .before .before .if3 .left);
-      z-none = c .before .if4 .left;
-      value-under = subst₂ (λ (n v : ℕ). v < getD valueUnder n 0) kind (c .value-at .ensures) (ltb-true _ _ e);
+      p-under = subst (λ (n : ℕ). pAt (a .t .now) (a .at) < getD (a .limits .now) n 0) kind (c .before .before .before .before .before .before .before .if2 .left);
+      q-under = subst₂ (λ (n : ℕ) (l : List ℕ). qAt (a .t .now) (a .at) < getD l n 0) kind (p .2) (c .before .before .before .before .if3 .left);
+      z-none = c .before .before .if4 .left;
+      value-under =
+          subst (λ (l : List ℕ). valueAt (a .t .now) (a .at) < getD l (kindAt (a .t .now) (a .at)) 0) (p .3)
+          (subst₂ (λ (n v : ℕ). v < getD (a .values .now) n 0) kind (c .before .value-at .ensures) (ltb-true _ _ e));
     }
 
 pub plain-spec : {M : Type 1} → statement M
@@ -86,7 +87,7 @@ plain-spec =
     add-if2
     shared-slice-read-if2
     returns-2
-    array-read-if3
+    element-copy-out-if3
     add-if3
     shared-slice-read-if3
     returns-3
@@ -95,5 +96,5 @@ plain-spec =
     returns-4
     value-at-requires
     mul-result
-    array-read-result
+    element-copy-out-result
     returns-5)
