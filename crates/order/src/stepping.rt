@@ -11,7 +11,7 @@ use verdict::same;
 
 // Reads the table, steps the first schedule whole and then the second, and judges. `names` and `others` are left with the names of the
 // steps that the two run, where they are the same.
-pub fn compared(
+pub(crate) fn compared(
     table: &[u8],
     first: &[u8],
     second: &[u8],
