@@ -1,13 +1,18 @@
 # make run      the main job: the listing of each folder of examples/, or of SITE=folder
-# make test     everything: layout, the Rust side, the calls from C, the listings, the comparison, then every proof and must-fail edit
+# make test     everything: layout, every proof and must-fail edit, the Rust side, the calls from C, the listings, the comparison
 # make compare  the proved calls compared with the reference
 # make bench    the proved engine's times and instructions against the reference's; writes docs/BENCHMARK.md
 # make soak     the comparison from a random seed, MINUTES=n minutes long
+
+SHELL := /bin/bash
+.SHELLFLAGS := -o pipefail -c
 
 CARGO := cd rust && cargo
 LOCKED := --offline --locked
 MINUTES := 10
 SITE :=
+PROOFS := rt ci
+VERDICT := rust/target/verdict.log
 TURNS := $(CURDIR)/target/bin/turns
 
 WARNINGS := -Wall -Wextra -Wpedantic -Werror -Wshadow -Wconversion -Wstrict-prototypes -Wmissing-prototypes -Wcast-qual
@@ -23,8 +28,12 @@ else
 	@cd "$(SITE)" && "$(TURNS)"
 endif
 
-# The proofs come last: `rt ci` removes target/, and with it the static library, and its last line is the verdict.
-test: layout rust c-test listings compare guarded proofs
+# `rt ci` comes first: it removes target/, and what it proves anew the rest is built from. Its last line, the verdict, is shown again at the end.
+test: layout
+	@mkdir -p rust/target
+	$(PROOFS) 2>&1 | tee $(VERDICT)
+	@$(MAKE) --no-print-directory rust c-test listings compare guarded
+	@tail -n 1 $(VERDICT)
 
 compare: lib
 	$(CARGO) run $(LOCKED) --release --quiet --bin compare
@@ -67,7 +76,7 @@ listings: program
 	tests/turns/run
 
 proofs:
-	rt ci
+	$(PROOFS)
 
 clean:
 	rm -rf target rust/target
