@@ -56,6 +56,7 @@ lib:
 # The listing program, as target/bin/turns; what the prover says is shown where it refuses.
 program:
 	@mkdir -p target
+	@[ -x "$(TURNS)" ] || echo 'proving and building the listing program: some minutes the first time' >&2
 	@rt check turns > target/turns.log 2>&1 || { cat target/turns.log; exit 1; }
 
 layout:
