@@ -8,7 +8,7 @@ use mathlib.Core.List.{List, [], _∷_, _++_}
 use lib.Dec.{eqb}
 use lib.ListN.{length, getD, set, length-set, length-append}
 use lib.Seq.{take-set-le, drop-set-lt}
-use Rattle.trace.specs.Theorems.{has}
+use Rattle.trace.specs.Order.{has}
 use Rattle.model.specs.Site.{upd}
 use Rattle.model.specs.Mutex.{join, leave}
 use Rattle.engine.specs.State.{queuesOf, QueueRoom}

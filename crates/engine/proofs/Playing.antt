@@ -18,10 +18,10 @@ use Rattle.table.specs.declared.Action.the-variants.{Lock}
 use Rattle.table.specs.Outcome.{Outcome, accepted as fine, refused, demand, _⨾_}
 use Rattle.table.specs.Format.{actorsOf, countOf}
 use Rattle.table.specs.Decode.{actionOf}
-use Rattle.table.specs.Promise.{Accepted}
+use Rattle.table.specs.Promise.{WellFormed}
 use Rattle.trace.specs.Machine.{Name}
 use Rattle.trace.specs.Schedule.{accepted, final, names}
-use Rattle.trace.specs.Theorems.{has}
+use Rattle.trace.specs.Order.{has}
 use Rattle.trace.proofs.Bools.{which}
 use Rattle.model.specs.Site.{Site, Mail, Actor as Record, upd, name, initial}
 use Rattle.model.specs.Views.{Look, blind, communications, mutexes, joins, looks, posts, sent}
@@ -48,7 +48,7 @@ abbrev pub reached : List ℕ → List ℕ → ℕ → Site
 reached table schedule i = final (machine table) initial (take i schedule)
 
 pub record Playing (table schedule comms log heads tails entries lens names′ : List ℕ) (actors : List Actor) (i : ℕ) : Type 0 where
-  pub accepted-table : Accepted table
+  pub accepted-table : WellFormed table
   pub site : siteOf actors comms log heads tails entries lens ≡ reached table schedule i
   pub taken : accepted (machine table) initial (take i schedule) ≡ true
   pub index : i ≤ length schedule
@@ -79,7 +79,7 @@ see-parts s t a (communications l) m q = ap (λ (x : Mail). see (record { actor 
 see-parts s t a (mutexes l) m q = ap (λ (x : ℕ → List ℕ). see (record { actor = s .actor; mail = s .mail; queue = x }) a (mutexes l)) q
 
 -- no queue outgrows eight by a Lock
-pub join-most : (table : List ℕ) (s : Site) (a : ℕ) → Accepted table → InBounds table s → a < actorsOf table → (m : ℕ) → length (join (s .queue m) a) ≤ 8
+pub join-most : (table : List ℕ) (s : Site) (a : ℕ) → WellFormed table → InBounds table s → a < actorsOf table → (m : ℕ) → length (join (s .queue m) a) ≤ 8
 join-most table s a ok i here m =
     let once : Once (join (s .queue m) a) = rw (eq-eqb m m refl) at (once-queueing (joins m) a (s .queue) (i .queued-once) m) in
     omega (arith, ok .actors-most, once-count (λ b. true) (actorsOf table) 0 (join (s .queue m) a) once member, howMany-most (λ b. true) (actorsOf table) 0)

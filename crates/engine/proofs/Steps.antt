@@ -11,7 +11,7 @@ use Rattle.table.specs.declared.Action.{Action}
 use Rattle.table.specs.declared.Action.the-variants.{Set, Add, Lesser, Send, Receive, TestAny, WaitAny, Lock, Unlock, MutexTest, MutexWait}
 use Rattle.table.specs.Format.{actorsOf, countOf}
 use Rattle.table.specs.Decode.{actionOf}
-use Rattle.table.specs.Promise.{Accepted, InRange}
+use Rattle.table.specs.Promise.{WellFormed, InRange}
 use Rattle.trace.specs.Machine.{Name}
 use Rattle.model.specs.Site.{name}
 use Rattle.model.specs.Local.{Seen, unseen, seen, pickUp, pickUpSeen, cellsAfter, local}

@@ -11,7 +11,7 @@ use Rattle.table.specs.declared.Action.the-variants.{Set, Add, Lesser, Send, Re
 use Rattle.table.specs.declared.Numbers.{Numbers}
 use Rattle.table.specs.Format.{actorsOf, countOf}
 use Rattle.table.specs.Decode.{actionOf}
-use Rattle.table.specs.Promise.{Accepted, InRange, Listing, LowerPost, number}
+use Rattle.table.specs.Promise.{WellFormed, InRange, Listing, LowerPost, number}
 use Rattle.trace.specs.Machine.{Name}
 use Rattle.model.specs.Site.{Mail, Port, name}
 use Rattle.model.specs.Views.{Post, silent, mails, posts, looks, sent, listed}

@@ -5,7 +5,7 @@ use mathlib.Core.Path.{_≡_}
 use mathlib.Core.List.{List, map}
 use lib.ListN.{length, getD, take, replicate}
 use Rattle.table.specs.Outcome.{Outcome, accepted, refused}
-use Rattle.table.specs.Promise.{Accepted}
+use Rattle.table.specs.Promise.{WellFormed}
 use Rattle.trace.specs.Schedule.{names}
 use Rattle.model.specs.Site.{initial}
 use Rattle.model.specs.Schedule.{machine, endState, RefusalNumbers, checkSchedule}
@@ -17,7 +17,7 @@ use Rattle.engine.specs.declared.play.Played.{Played}
 
 -- an accepted table, and arrays of zeros
 pub record Fresh (table comms log heads tails entries lens names′ : List ℕ) : Type 0 where
-  pub accepted : Accepted table
+  pub accepted : WellFormed table
   pub comms-fresh : comms ≡ replicate 256 0
   pub log-fresh : log ≡ replicate 4096 0
   pub heads-fresh : heads ≡ replicate 16 0

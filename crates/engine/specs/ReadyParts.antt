@@ -7,7 +7,7 @@ use mathlib.Core.List.{List}
 use lib.Dec.{ltb}
 use lib.ListN.{length, getD}
 use Rattle.table.specs.Format.{actorsOf, countOf}
-use Rattle.table.specs.Promise.{Accepted}
+use Rattle.table.specs.Promise.{WellFormed}
 use Rattle.model.specs.Site.{Site}
 use Rattle.model.specs.Step.{passes}
 use Rattle.model.specs.Ready as Model
@@ -33,14 +33,14 @@ siteWith actors comms entries lens log heads tails = siteOf actors comms log hea
 
 -- what a look at one actor may rely on
 pub record Looked (table : List ℕ) (a : ℕ) (comms entries lens : List ℕ) : Type 0 where
-  pub accepted : Accepted table
+  pub accepted : WellFormed table
   pub actor : a < actorsOf table
   pub comms-long : length comms ≡ 256
   pub valued : (j : ℕ) → getD comms j 0 < 2 ^ 42
   pub queue-room : QueueRoom entries lens
 
 pub record Answerable (table : List ℕ) (actors : List Actor) (comms entries lens : List ℕ) : Type 0 where
-  pub accepted : Accepted table
+  pub accepted : WellFormed table
   pub actors-long : length actors ≡ 8
   pub comms-long : length comms ≡ 256
   pub valued : (j : ℕ) → getD comms j 0 < 2 ^ 42

@@ -5,7 +5,7 @@ use mathlib.Core.Path.{_≡_}
 use mathlib.Core.List.{List, _++_, map}
 use lib.ListN.{length, getD, take, drop}
 use Rattle.table.specs.Format.{countOf}
-use Rattle.table.specs.Promise.{Accepted}
+use Rattle.table.specs.Promise.{WellFormed}
 use Rattle.trace.specs.Machine.{Name}
 use Rattle.model.specs.Site.{sends, receives, name}
 use Rattle.model.specs.Report.{parts, actorBytes, commBytes, nameBytes, boxBytes, mutexBytes, report}
@@ -68,7 +68,7 @@ Positions actors = (a : ℕ) → recordsOf actors a .position < 256
 
 -- what writing a report asks: an accepted table, a state in its arrays, and room for the report
 pub record Reportable (table : List ℕ) (actors : List Actor) (comms log heads tails entries lens buf : List ℕ) : Type 0 where
-  pub accepted : Accepted table
+  pub accepted : WellFormed table
   pub positions : Positions actors
   pub mail : MailRoom comms log heads tails
   pub queues : QueueRoom entries lens

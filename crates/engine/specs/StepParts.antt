@@ -8,7 +8,7 @@ use lib.ListN.{length, getD}
 use Rattle.table.specs.declared.Action.{Action}
 use Rattle.table.specs.Format.{actorsOf, countOf}
 use Rattle.table.specs.Decode.{actionOf}
-use Rattle.table.specs.Promise.{Accepted}
+use Rattle.table.specs.Promise.{WellFormed}
 use Rattle.model.specs.Site.{Site, Mail, name}
 use Rattle.model.specs.Views.{looks, posts, sent, waits}
 use Rattle.model.specs.Mutex.{queueing, join}
@@ -33,7 +33,7 @@ nextOf table a r = actionOf table a (r .position)
 
 -- what a step may rely on
 pub record Steppable (table : List ℕ) (a : ℕ) (r : Actor) (comms log heads tails entries lens : List ℕ) : Type 0 where
-  pub accepted : Accepted table
+  pub accepted : WellFormed table
   pub actor : a < actorsOf table
   pub unfinished : r .position < countOf table a
   pub eight : EightCells r

@@ -3,7 +3,7 @@ ghost use mathlib.Core.Path.{_≡_};
 ghost use Prim.Native.Nat.{_+_, _<_, _≤_};
 ghost use lib.Dec.{eqb};
 ghost use lib.ListN.{length, take, drop};
-ghost use Rattle.trace.specs.Theorems.{has};
+ghost use Rattle.trace.specs.Order.{has};
 ghost use Rattle.model.specs.Site.{upd};
 ghost use Rattle.model.specs.Mutex.{owns, join as joined, leave as left};
 ghost use Rattle.engine.specs.State.{queuesOf, QueueRoom};

@@ -4,7 +4,7 @@ ghost use Prim.Native.Nat.{ℕ, _+_, _≤_};
 ghost use mathlib.Core.List.{List};
 ghost use lib.ListN.{length};
 ghost use Rattle.table.specs.Format.{actorsOf};
-ghost use Rattle.model.specs.Ready.{bit as bitOf, readyMask, readyAnswer};
+ghost use Rattle.model.specs.Ready.{bit as asBit, readyMask, readyAnswer};
 ghost use Rattle.engine.specs.ReadyParts.{Answerable, Looked, looksReady, everyoneFinished, readinessOf, siteWith};
 use crate::Actor;
 use crate::look;
@@ -128,7 +128,7 @@ fn is_ready(
 }
 
 fn bit(b: bool) -> u32
-    ensures { λ r. ⌜ (r ≡ bitOf b) × (r ≤ 1) ⌝ }
+    ensures { λ r. ⌜ (r ≡ asBit b) × (r ≤ 1) ⌝ }
 {
     if b {
         return 1;

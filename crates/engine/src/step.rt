@@ -4,7 +4,7 @@ ghost use Prim.Native.Nat.{_+_, _<_};
 ghost use lib.ListN.{length, set};
 ghost use Rattle.table.specs.Format.{actorsOf};
 ghost use Rattle.table.specs.Decode.{actionOf};
-ghost use Rattle.table.specs.Promise.{Accepted};
+ghost use Rattle.table.specs.Promise.{WellFormed};
 ghost use Rattle.model.specs.Local.{pickUpSeen, placeSeen, isSeen};
 ghost use Rattle.engine.specs.LookParts.{seenOf};
 ghost use Rattle.engine.specs.StepParts.{Steppable, StepTaken, nextOf, Picks, SmallPlace};
@@ -109,7 +109,7 @@ pub fn step(
 
 // The value of a Receive that was found goes into its cell.
 fn picked(table: &[u8], a: usize, r: Actor, seen: Seen) -> Actor
-    requires { ⌜ (length (r .cells) ≡ 8) × Accepted (now table) × (a < actorsOf (now table)) × Picks (now table) a (seenOf seen) ⌝ }
+    requires { ⌜ (length (r .cells) ≡ 8) × WellFormed (now table) × (a < actorsOf (now table)) × Picks (now table) a (seenOf seen) ⌝ }
     ensures { λ s. ⌜ (s .position ≡ r .position) × (s .cells ≡ pickUpSeen (actionOf (now (table .entry)) a) (seenOf seen) (r .cells)) ⌝ }
 {
     match seen {

@@ -8,7 +8,7 @@ use native.Mathlib.Omega.{arith}
 use lib.ListN.{length, take, drop, replicate, length-map, length-take}
 use Rattle.table.specs.Outcome.{Outcome, accepted, refused, _⨾_}
 use Rattle.table.specs.Read.{readOf}
-use Rattle.table.specs.Promise.{Accepted}
+use Rattle.table.specs.Promise.{WellFormed}
 use Rattle.trace.specs.Machine.{Name}
 use Rattle.trace.specs.Schedule.{names}
 use Rattle.trace.proofs.Run.{names-length}
@@ -16,7 +16,7 @@ use Rattle.model.specs.Site.{Site, initial}
 use Rattle.model.specs.Ready.{Ending, ReadyAnswer, readyAnswer, ending}
 use Rattle.model.specs.Schedule.{machine, endState, firstNumbers, checkSchedule}
 use Rattle.model.specs.Calls.{readyChecks}
-use Rattle.model.specs.Listing.{line, endText, refusedText, stepLines, runLines, listed, listingOf, tableRead, scheduleRead}
+use Rattle.model.specs.Listing.{line, endText, refusedText, stepLines, runLines, linesOf, listingOf, tableRead, scheduleRead}
 use Rattle.model.proofs.Beginnings.{beginnings-decide}
 use Rattle.engine.specs.State.{nameOf}
 use Rattle.engine.specs.PlayParts.{Ended}
@@ -43,9 +43,9 @@ module _ (table schedule e b : List ℕ) (r : ℕ) where
       → Wrote e (line (refusedText number position)) b r × (r ≤ 33) → Wrote e (listingOf table schedule) b r × (r ≤ 1293)
   unfolding listingOf
   wrote-refusal number position {n} {p} c f g (w, small) =
-      let right : line (refusedText number position) ≡ listed (readyChecks table schedule) (runLines table schedule) =
+      let right : line (refusedText number position) ≡ linesOf (readyChecks table schedule) (runLines table schedule) =
       ap (λ (x : ℕ). line (refusedText x position)) f ∙ ap (λ (x : ℕ). line (refusedText n x)) g
-      ∙ sym (ap (λ (o : Outcome). listed o (runLines table schedule)) c) in (
+      ∙ sym (ap (λ (o : Outcome). linesOf o (runLines table schedule)) c) in (
         subst (λ (l : List ℕ). Wrote e l b r) right w,
         omega (arith, small),
       )
@@ -59,14 +59,14 @@ module _ (table schedule e b : List ℕ) (r : ℕ) where
   unfolding listingOf readyAnswer
   wrote-run held found c f g w =
       let last : endingAs (found .ending) ≡ ending table (endState table schedule) = ap (λ (a : ReadyAnswer). a .ending) g in
-      let right : firstSteps held (length schedule) ++ line (endText (endingAs (found .ending))) ≡ listed (readyChecks table schedule) (runLines table schedule) =
+      let right : firstSteps held (length schedule) ++ line (endText (endingAs (found .ending))) ≡ linesOf (readyChecks table schedule) (runLines table schedule) =
       ap (λ (l : List Name). stepLines l ++ line (endText (endingAs (found .ending)))) f
       ∙ ap (λ (x : Ending). stepLines (names (machine table) initial schedule) ++ line (endText x)) last
-      ∙ sym (ap (λ (o : Outcome). listed o (runLines table schedule)) c) in
+      ∙ sym (ap (λ (o : Outcome). linesOf o (runLines table schedule)) c) in
       subst (λ (l : List ℕ). Wrote e l b r) right w
 
 -- the end state in arrays can be asked
-pub answerable : {table schedule comms log heads tails entries lens held : List ℕ} {r : Played} → Accepted table
+pub answerable : {table schedule comms log heads tails entries lens held : List ℕ} {r : Played} → WellFormed table
     → Ended table schedule comms log heads tails entries lens held r → Answerable table (r .actors) comms entries lens
 answerable ok E =
     record {

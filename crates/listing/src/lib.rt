@@ -39,7 +39,7 @@ fn write(table: &[u8], schedule: &[u8], out: &mut [u8]) -> usize
     ensures { λ r. ⌜ r ≤ 1293 ⌝ }
 {
     let reading = table::read(table);
-    let Reading::Accepted = reading else {
+    let Reading::Valid = reading else {
         return lines::refused(reading.number(), reading.position(), out);
     };
     let mut comms = [0u64; 256];

@@ -20,18 +20,18 @@ use Rattle.model.specs.Site.{Site, initial}
 use Rattle.model.specs.Step.{step}
 use Rattle.model.specs.Schedule.{firstNumbers, checkEntry, checkFrom, checkSchedule}
 use Rattle.model.specs.Calls.{readyChecks}
-use Rattle.model.specs.Listing.{runLines, listed, listingOf, tableRead, scheduleRead, BeginningsDecide}
+use Rattle.model.specs.Listing.{runLines, linesOf, listingOf, tableRead, scheduleRead, BeginningsDecide}
 use Rattle.model.proofs.Checks.{then-both, checks-taken}
 use Rattle.model.proofs.ReportBound.{entries-room}
 use Rattle.model.proofs.TableBeginning.{then-alike, read-alike, long-refused}
 
 -- the lines count only where the checks accept
-listed-alike : {o p : Outcome} (l m : List ℕ) → o ≡ p → (o ≡ accepted → l ≡ m) → listed o l ≡ listed p m
+listed-alike : {o p : Outcome} (l m : List ℕ) → o ≡ p → (o ≡ accepted → l ≡ m) → linesOf o l ≡ linesOf p m
 listed-alike {o} {p} l m e f = go o e f
   where
-    go : (o : Outcome) → o ≡ p → (o ≡ accepted → l ≡ m) → listed o l ≡ listed p m
-    go accepted e f = f refl ∙ ap (λ (z : Outcome). listed z m) e
-    go (refused n i) e f = ap (λ (z : Outcome). listed z m) e
+    go : (o : Outcome) → o ≡ p → (o ≡ accepted → l ≡ m) → linesOf o l ≡ linesOf p m
+    go accepted e f = f refl ∙ ap (λ (z : Outcome). linesOf z m) e
+    go (refused n i) e f = ap (λ (z : Outcome). linesOf z m) e
 
 -- ---- the table
 

@@ -11,7 +11,7 @@ use Rattle.table.specs.Read.{readOf}
 use Rattle.trace.specs.Machine.{Machine}
 use Rattle.trace.specs.Schedule.{accepted, names}
 use Rattle.trace.specs.Chain.{swapAt, independentAt, Chain}
-use Rattle.trace.specs.Same.{same}
+use Rattle.trace.specs.Same.{equivalent}
 use Rattle.trace.proofs.Bools.{and-left, and-right}
 use Rattle.model.specs.Site.{initial}
 use Rattle.model.specs.Local.{cellsAfter}
@@ -25,7 +25,7 @@ use Rattle.model.specs.Claims.{AllHold, eqList, isChain}
 use Rattle.model.specs.Cases.{tableA, cases}
 
 pub cases-hold : AllHold cases
-unfolding runOf readyOf pairOf sameOf readOf decodeAs initial ready step cellsAfter readyAnswer depends report same
+unfolding runOf readyOf pairOf sameOf readOf decodeAs initial ready step cellsAfter readyAnswer depends report equivalent
 cases-hold = refl
 
 -- ---- the test for a chain says what it should

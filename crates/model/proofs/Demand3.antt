@@ -13,8 +13,9 @@ use Rattle.table.specs.Read.{readOf}
 use Rattle.trace.specs.Machine.{Name}
 use Rattle.trace.specs.Schedule.{accepted as taken, names}
 use Rattle.trace.specs.Chain.{independentAt, Exchange, Chain, Chained, replay}
-use Rattle.trace.specs.Same.{same as equivalent}
-use Rattle.trace.specs.Theorems.{has, Theorems, KeepsRun}
+use Rattle.trace.specs.Same.{equivalent}
+use Rattle.trace.specs.Order.{has}
+use Rattle.trace.specs.Theorems.{Theorems, KeepsRun}
 use Rattle.trace.proofs.Bools.{both, is-false}
 use Rattle.trace.proofs.Run.{names-length}
 use Rattle.trace.proofs.Theorems.{theorems}

@@ -3,7 +3,7 @@
 use mathlib.Core.Path.{refl}
 use Rattle.table.specs.Decode.{decodeAs}
 use Rattle.table.specs.Read.{readOf}
-use Rattle.trace.specs.Same.{same}
+use Rattle.trace.specs.Same.{equivalent}
 use Rattle.model.specs.Site.{initial}
 use Rattle.model.specs.Local.{cellsAfter}
 use Rattle.model.specs.Step.{ready, step}
@@ -13,5 +13,5 @@ use Rattle.model.specs.Claims.{AllHold}
 use Rattle.model.specs.Forecourt.{receipts}
 
 pub receipts-hold : AllHold receipts
-unfolding pairOf sameOf readOf decodeAs initial ready step cellsAfter depends same
+unfolding pairOf sameOf readOf decodeAs initial ready step cellsAfter depends equivalent
 receipts-hold = refl

@@ -11,7 +11,7 @@ use Rattle.table.specs.declared.Action.{Action}
 use Rattle.table.specs.declared.Action.the-variants.{Set, Add, Lesser, Send, Receive, TestAny, WaitAny, Lock, Unlock, MutexTest, MutexWait}
 use Rattle.table.specs.declared.Numbers.{Numbers}
 use Rattle.trace.specs.Machine.{Name}
-use Rattle.trace.specs.Theorems.{has}
+use Rattle.trace.specs.Order.{has}
 use Rattle.trace.proofs.Bools.{which, contrary, is-false, or-left, or-right, or-cases}
 use Rattle.model.specs.Site.{Side, sends, receives, Port, opposite, name}
 use Rattle.model.specs.Views.{Post, silent, mails, joins, leaves, posts, blind, communications, mutexes, looks, listed}

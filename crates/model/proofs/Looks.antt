@@ -9,7 +9,7 @@ use lib.Dec.{eqb}
 use borrow.Author.Tests.{eqb-true, eq-eqb}
 use Rattle.trace.specs.Machine.{Name}
 use Rattle.trace.specs.Order.{eqName, mem}
-use Rattle.trace.specs.Theorems.{has}
+use Rattle.trace.specs.Order.{has}
 use Rattle.trace.proofs.Bools.{which, contrary, is-false, or-left, or-right, or-cases, or-false-left, or-false-right}
 use Rattle.model.specs.Site.{Actor, Port, opposite, pending, Mail, Site, name}
 use Rattle.model.specs.Views.{Post, silent, mails, joins, leaves, Look, blind, communications, mutexes}

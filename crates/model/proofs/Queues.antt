@@ -7,7 +7,7 @@ use mathlib.Core.Bool.{Bool, true, false, _||_}
 use mathlib.Core.List.{List, [], _∷_, _++_}
 use lib.Dec.{eqb}
 use borrow.Author.Tests.{eqb-true, eqb-false, ne-eqb}
-use Rattle.trace.specs.Theorems.{has}
+use Rattle.trace.specs.Order.{has}
 use Rattle.trace.proofs.Bools.{which}
 use Rattle.model.specs.Site.{upd}
 use Rattle.model.specs.Views.{Post, silent, mails, joins, leaves}

@@ -7,7 +7,7 @@ use mathlib.Core.Bool.{true}
 use mathlib.Core.List.{List, [], _∷_, _++_}
 use lib.ListN.{length, length-append}
 use Rattle.table.specs.Format.{actorsOf, mailboxesOf, mutexesOf, countOf}
-use Rattle.table.specs.Promise.{Accepted, isPost}
+use Rattle.table.specs.Promise.{WellFormed, isPost}
 use Rattle.table.specs.Decode.{decodeAs, actionOf}
 use Rattle.trace.specs.Machine.{Name}
 use Rattle.trace.specs.Schedule.{accepted}
@@ -111,7 +111,7 @@ module _ (table : List ℕ) (s : Site) where
 
 -- ---- the bounds of an accepted table
 
-module _ (table : List ℕ) (ok : Accepted table) where
+module _ (table : List ℕ) (ok : WellFormed table) where
   pub actions-most : actionCount table ≤ 256
   actions-most =
       omega (arith, total-most (countOf table) 32 (actorsOf table) 0 (λ a l h. ok .actions-most a (omega arith)), ok .actors-most)

@@ -16,7 +16,7 @@ use Rattle.table.specs.Format.{actorsOf, countOf}
 use Rattle.table.specs.Promise.{isPost}
 use Rattle.trace.specs.Machine.{Name}
 use Rattle.trace.specs.Order.{mem, count}
-use Rattle.trace.specs.Theorems.{has}
+use Rattle.trace.specs.Order.{has}
 use Rattle.trace.proofs.Bools.{which}
 use Rattle.model.specs.Site.{Side, sends, receives, Port, Site, name}
 use Rattle.model.specs.Views.{Post, silent, mails, joins, leaves, posts}

@@ -6,9 +6,9 @@ use mathlib.Core.Logic.{_⊎_, inl, inr}
 use mathlib.Core.Bool.{Bool, true, false, true≢false}
 use mathlib.Core.List.{List, [], _∷_, _++_}
 use Rattle.trace.specs.Machine.{Name}
-use Rattle.trace.specs.Order.{eqName, mem}
+use Rattle.trace.specs.Order.{eqName, mem, Distinct}
 use Rattle.trace.proofs.Bools.{which, contrary, is-false, or-false-left, or-false-right}
-use Rattle.trace.proofs.Names.{eqName-refl, Distinct}
+use Rattle.trace.proofs.Names.{eqName-refl}
 use Rattle.model.specs.Site.{upd, Port, opposite, eqPort, Mail}
 use Rattle.model.specs.Views.{Post, silent, mails, joins, leaves}
 use Rattle.model.specs.Mail.{meetWith, mailing}

@@ -9,7 +9,7 @@ use mathlib.Core.List.{List, [], _∷_, _++_}
 use lib.Dec.{eqb}
 use borrow.Author.Tests.{eqb-true, eqb-false, eq-eqb}
 use lib.ListN.{length}
-use Rattle.trace.specs.Theorems.{has}
+use Rattle.trace.specs.Order.{has}
 use Rattle.trace.proofs.Bools.{which, contrary, is-false, or-left, or-right, or-cases, or-false-left, or-false-right}
 use Rattle.model.specs.Views.{Post, silent, mails, joins, leaves}
 use Rattle.model.specs.Mutex.{join, leave, queueing}

@@ -11,10 +11,9 @@ use lib.Dec.{eqb}
 use borrow.Author.Tests.{eqb-true, eqb-false, ltb-true}
 use Rattle.table.specs.Format.{actorsOf, countOf}
 use Rattle.trace.specs.Schedule.{accepted, final}
-use Rattle.trace.specs.Order.{mem}
-use Rattle.trace.specs.Theorems.{has}
+use Rattle.trace.specs.Order.{mem, Distinct}
+use Rattle.trace.specs.Order.{has}
 use Rattle.trace.proofs.Bools.{which, is-false}
-use Rattle.trace.proofs.Names.{Distinct}
 use Rattle.trace.proofs.Run.{first-ready, rest-accepted}
 use Rattle.model.specs.Site.{Port, Site, name, initial}
 use Rattle.model.specs.Views.{joins, posts}

@@ -10,7 +10,7 @@ use lib.Seq.{take-append-seam, drop-append-seam}
 use borrow.Author.Tests.{leb-true}
 use Rattle.table.specs.Outcome.{Outcome, accepted, refused, demand, _⨾_}
 use Rattle.table.specs.Read.{readOf}
-use Rattle.trace.specs.Same.{same}
+use Rattle.trace.specs.Same.{equivalent}
 use Rattle.trace.specs.Route.{route}
 use Rattle.trace.specs.Theorems.{ShortestRoute}
 use Rattle.model.specs.Site.{initial}
@@ -34,9 +34,9 @@ module _ (table first second before : List ℕ) where
       let schedules : (checkSchedule firstNumbers table first ⨾ checkSchedule secondNumbers table second) ≡ accepted =
       then-right (readOf table) _ checks in
       let tail = then-right (sameChecks table first second) _ h in
-      let is-same : same (machine table) initial first second ≡ true = demand-true _ 19 0 (then-left (demand (same (machine table) initial first second) 19 0) _ tail) in
+      let is-same : equivalent (machine table) initial first second ≡ true = demand-true _ 19 0 (then-left (demand (equivalent (machine table) initial first second) 19 0) _ tail) in
       let room : mostExchanges (length first) ≤ length before =
-      leb-true _ _ (demand-true _ 18 0 (then-right (demand (same (machine table) initial first second) 19 0) _ tail)) in
+      leb-true _ _ (demand-true _ 18 0 (then-right (demand (equivalent (machine table) initial first second) 19 0) _ tail)) in
       let found : ShortestRoute (machine table) initial first second =
       site-theorems table .shortest-route first second
       (checks-taken table firstNumbers initial 0 first (then-left (checkSchedule firstNumbers table first) _ schedules))

@@ -9,7 +9,7 @@ use Rattle.table.specs.Outcome.{Outcome, accepted, refused, demand, _⨾_}
 use Rattle.table.specs.Format.{actorsOf, countOf}
 use Rattle.table.specs.Read.{readOf}
 use Rattle.trace.specs.Machine.{Name}
-use Rattle.trace.specs.Same.{same as equivalent}
+use Rattle.trace.specs.Same.{equivalent}
 use Rattle.model.specs.Site.{initial}
 use Rattle.model.specs.Ready.{ReadyAnswer, readyAnswer}
 use Rattle.model.specs.Pair.{depends}

@@ -7,8 +7,8 @@ use lib.ListN.{set, take}
 use Rattle.table.specs.Outcome.{refused}
 use Rattle.model.specs.Site.{name}
 use Rattle.model.specs.Ready.{going}
-use Rattle.model.specs.Calls.{gives, refuses, independent, dependent, same as Same}
-use Rattle.model.specs.Claims.{Claim, _⇒_, read, run, cell, ready, pair, same, route, outcome, ran, holds, readied, paired, judged, routed}
+use Rattle.model.specs.Calls.{gives, refuses, independent, dependent, same}
+use Rattle.model.specs.Claims.{Claim, _⇒_, read, run, cell, ready, pair, areSame, isRoute, outcome, ran, holds, readied, paired, judged, routed}
 
 -- table A: actor 0 sets 149 and sends; actor 1 receives into cell 2 and waits, result in cell 3
 abbrev pub tableA : List ℕ
@@ -41,8 +41,8 @@ cases =
     ∷ pair tableA (name 0 1) (name 1 0) ⇒ paired (gives independent)
     ∷ pair tableA (name 0 1) (name 1 1) ⇒ paired (gives dependent)
     -- (h) 0, 0, 1, 1 and 1, 0, 0, 1 are same; 1, 0 is a route
-    ∷ same tableA (0 ∷ 0 ∷ 1 ∷ 1 ∷ []) (1 ∷ 0 ∷ 0 ∷ 1 ∷ []) ⇒ judged (gives Same)
-    ∷ route tableA (1 ∷ 0 ∷ []) (0 ∷ 0 ∷ 1 ∷ 1 ∷ []) (1 ∷ 0 ∷ 0 ∷ 1 ∷ []) ⇒ routed true
+    ∷ areSame tableA (0 ∷ 0 ∷ 1 ∷ 1 ∷ []) (1 ∷ 0 ∷ 0 ∷ 1 ∷ []) ⇒ judged (gives same)
+    ∷ isRoute tableA (1 ∷ 0 ∷ []) (0 ∷ 0 ∷ 1 ∷ 1 ∷ []) (1 ∷ 0 ∷ 0 ∷ 1 ∷ []) ⇒ routed true
     -- (i) A cut to 43 bytes is refused 5; with kind 255 at offset 12, refused 6 at 12
     ∷ read (take 43 tableA) ⇒ outcome (refused 5 0)
     ∷ read (set tableA 12 255) ⇒ outcome (refused 6 12)

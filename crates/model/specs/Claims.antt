@@ -49,9 +49,9 @@ pub data Question : Type 0 where
   -- the results of ready, pair and same
   ready : (table schedule : List ℕ) → Question
   pair : (table : List ℕ) (x y : Name) → Question
-  same : (table first second : List ℕ) → Question
+  areSame : (table first second : List ℕ) → Question
   -- whether the positions are a route from the first schedule to the second; how the two end
-  route : (table positions first second : List ℕ) → Question
+  isRoute : (table positions first second : List ℕ) → Question
   ends : (table first second : List ℕ) → Question
 
 pub data Answer : Type 0 where
@@ -71,8 +71,8 @@ ask (run table schedule) = ran (runOf table schedule (replicate reportRoom 0) .r
 ask (cell table schedule actor number) = holds (getD (endState table schedule .actor actor .cells) number 0)
 ask (ready table schedule) = readied (readyOf table schedule)
 ask (pair table x y) = paired (pairOf table x y)
-ask (same table first second) = judged (sameOf table first second)
-ask (route table positions first second) = routed (isChain (machine table) initial positions first second)
+ask (areSame table first second) = judged (sameOf table first second)
+ask (isRoute table positions first second) = routed (isChain (machine table) initial positions first second)
 ask (ends table first second) = ended (compareEnds table first second)
 
 -- a claim: the question has this answer

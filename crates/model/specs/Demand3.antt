@@ -13,7 +13,7 @@ use Rattle.table.specs.Read.{readOf}
 use Rattle.trace.specs.Machine.{Name}
 use Rattle.trace.specs.Schedule.{accepted, names}
 use Rattle.trace.specs.Chain.{Exchange, Chain, Chained, replay}
-use Rattle.trace.specs.Theorems.{has}
+use Rattle.trace.specs.Order.{has}
 use Rattle.model.specs.Site.{name, initial}
 use Rattle.model.specs.Step.{nextName, nextAction}
 use Rattle.model.specs.Ready.{ReadyAnswer}

@@ -3,9 +3,9 @@
 -- Assumes nothing: these are definitions.
 use Prim.Native.Nat.{ℕ}
 use mathlib.Core.List.{List, [], _∷_}
-use Rattle.model.specs.Calls.{gives, independent, dependent, same as Same, different}
+use Rattle.model.specs.Calls.{gives, independent, dependent, same, different}
 use Rattle.model.specs.Site.{name}
-use Rattle.model.specs.Claims.{Claim, _⇒_, cell, pair, same, holds, paired, judged}
+use Rattle.model.specs.Claims.{Claim, _⇒_, cell, pair, areSame, holds, paired, judged}
 
 -- actor 0, loyalty, sets 145 and sends; actor 1, fleet, sets 139 and sends; actor 2, the pump, receives into cell 0 and waits, result in cell 1
 abbrev pub forecourt : List ℕ
@@ -36,8 +36,8 @@ receipts =
     ∷ cell forecourt fleetFirst 2 0 ⇒ holds 139
     ∷ cell forecourt anotherOrder 2 0 ⇒ holds 145
     -- what the same verdict says
-    ∷ same forecourt loyaltyFirst fleetFirst ⇒ judged (gives different)
-    ∷ same forecourt loyaltyFirst anotherOrder ⇒ judged (gives Same)
+    ∷ areSame forecourt loyaltyFirst fleetFirst ⇒ judged (gives different)
+    ∷ areSame forecourt loyaltyFirst anotherOrder ⇒ judged (gives same)
     -- why: the two Sends go to one mailbox, while a Send and the Receive there may trade places
     ∷ pair forecourt (name 0 1) (name 1 1) ⇒ paired (gives dependent)
     ∷ pair forecourt (name 0 1) (name 2 0) ⇒ paired (gives independent)

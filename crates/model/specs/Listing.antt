@@ -67,13 +67,13 @@ runLines table schedule =
     stepLines (names (machine table) initial schedule) ++ line (endText (ending table (endState table schedule)))
 
 -- the lines, where the checks accept
-abbrev pub listed : Outcome → List ℕ → List ℕ
-listed accepted lines = lines
-listed (refused number position) lines = line (refusedText number position)
+abbrev pub linesOf : Outcome → List ℕ → List ℕ
+linesOf accepted lines = lines
+linesOf (refused number position) lines = line (refusedText number position)
 
 -- the run's checks are ready's, since a listing has no report buffer: 1 to 9, then 11 to 13
 unfoldable pub listingOf : (table schedule : List ℕ) → List ℕ
-listingOf table schedule = listed (readyChecks table schedule) (runLines table schedule)
+listingOf table schedule = linesOf (readyChecks table schedule) (runLines table schedule)
 
 -- ---- the files' beginnings are enough
 

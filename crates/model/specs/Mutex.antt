@@ -4,7 +4,7 @@ use Prim.Native.Nat.{ℕ}
 use mathlib.Core.Bool.{Bool, false, cond}
 use mathlib.Core.List.{List, [], _∷_, _++_}
 use lib.Dec.{eqb}
-use Rattle.trace.specs.Theorems.{has}
+use Rattle.trace.specs.Order.{has}
 use Rattle.model.specs.Site.{upd}
 use Rattle.model.specs.Views.{Post, silent, mails, joins, leaves}
 

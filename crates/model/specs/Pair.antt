@@ -6,7 +6,7 @@ use mathlib.Core.Bool.{Bool, false, _||_}
 use mathlib.Core.List.{List, [], _∷_}
 use lib.Dec.{eqb}
 use Rattle.trace.specs.Machine.{Name}
-use Rattle.trace.specs.Theorems.{has}
+use Rattle.trace.specs.Order.{has}
 use Rattle.model.specs.Site.{Port, opposite, eqPort, name}
 use Rattle.model.specs.Views.{Post, silent, mails, joins, leaves, posts, Look, blind, communications, mutexes, looks}
 use Rattle.model.specs.Step.{actionAt}

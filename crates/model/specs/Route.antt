@@ -7,7 +7,7 @@ use lib.Dec.{leb}
 use lib.ListN.{length, take, drop}
 use Rattle.table.specs.Outcome.{Outcome, accepted, refused, demand, _⨾_}
 use Rattle.trace.specs.Chain.{Chain, replay}
-use Rattle.trace.specs.Same.{same}
+use Rattle.trace.specs.Same.{equivalent}
 use Rattle.model.specs.Site.{initial}
 use Rattle.model.specs.Schedule.{machine}
 use Rattle.model.specs.Calls.{Result, gives, refuses, sameChecks}
@@ -20,7 +20,7 @@ mostExchanges m = m * (m - 1) / 2
 abbrev pub routeChecks : (table first second buffer : List ℕ) → Outcome
 routeChecks table first second buffer =
     sameChecks table first second
-    ⨾ demand (same (machine table) initial first second) 19 0
+    ⨾ demand (equivalent (machine table) initial first second) 19 0
     ⨾ demand (leb (mostExchanges (length first)) (length buffer)) 18 0
 
 -- the first n entries of the buffer are a route from the first schedule to the second: a chain of exchanges, so that replaying it turns the

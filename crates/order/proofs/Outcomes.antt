@@ -12,7 +12,7 @@ use lib.ListN.{length, getD, drop}
 use Rattle.table.specs.Outcome.{Outcome, accepted, refused, demand, _⨾_}
 use Rattle.table.specs.Format.{actorsOf, countOf}
 use Rattle.table.specs.Read.{readOf}
-use Rattle.table.specs.Promise.{Accepted}
+use Rattle.table.specs.Promise.{WellFormed}
 use Rattle.trace.specs.Schedule.{accepted as taken}
 use Rattle.trace.proofs.Bools.{which}
 use Rattle.model.specs.Site.{Site, Actor as Record, initial}
@@ -75,7 +75,7 @@ module _ (table schedule : List ℕ) where
       ap gives (right ∙ ap (readyAnswer table) end) ∙ sym (ap (λ (o : Outcome). answer o (readyAnswer table (endState table schedule))) e)
 
 -- an accepted schedule's end in arrays can be reported and asked
-module _ {table schedule comms log heads tails entries lens names : List ℕ} {r : Played} (ok : Accepted table)
+module _ {table schedule comms log heads tails entries lens names : List ℕ} {r : Played} (ok : WellFormed table)
     (fine : checkSchedule firstNumbers table schedule ≡ accepted) (E : Ended table schedule comms log heads tails entries lens names r) where
   all-taken : taken (machine table) initial schedule ≡ true
   all-taken = checks-taken table firstNumbers initial 0 schedule fine

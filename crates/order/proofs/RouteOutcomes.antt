@@ -14,7 +14,7 @@ use lib.Seq.{take-append-seam, drop-append-seam}
 use Rattle.table.specs.Outcome.{Outcome, accepted, refused, demand, _⨾_}
 use Rattle.table.specs.Read.{readOf}
 use Rattle.table.proofs.Checks.{then-left, then-right}
-use Rattle.trace.specs.Same.{same as equivalent}
+use Rattle.trace.specs.Same.{equivalent}
 use Rattle.trace.specs.Schedule.{accepted as taken}
 use Rattle.trace.specs.Route.{route}
 use Rattle.trace.specs.Theorems.{ShortestRoute}

@@ -7,7 +7,7 @@ use Prim.Native.Nat.{ℕ}
 use native.Mathlib.Omega.{arith}
 use Rattle.table.specs.Outcome.{Outcome, accepted, refused, _⨾_}
 use Rattle.table.specs.Read.{readOf}
-use Rattle.trace.specs.Same.{same as equivalent}
+use Rattle.trace.specs.Same.{equivalent}
 use Rattle.model.specs.Site.{initial}
 use Rattle.model.specs.Schedule.{machine, firstNumbers, secondNumbers, checkSchedule}
 use Rattle.model.specs.Calls.{Result, gives, refuses, answer, SameVerdict, same as alike, different, sameChecks, sameOf}

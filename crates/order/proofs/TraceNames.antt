@@ -11,14 +11,13 @@ use lib.Dec.{ltb}
 use lib.ListN.{length, getD, take, List·getD-map}
 use lib.Seq.{getD-take}
 use Rattle.table.specs.Format.{actorsOf, countOf}
-use Rattle.table.specs.Promise.{Accepted}
+use Rattle.table.specs.Promise.{WellFormed}
 use Rattle.trace.specs.Machine.{Name}
 use Rattle.trace.specs.Schedule.{accepted, names}
-use Rattle.trace.specs.Order.{within}
-use Rattle.trace.specs.Same.{same, reorders}
+use Rattle.trace.specs.Order.{within, Distinct}
+use Rattle.trace.specs.Same.{equivalent, reorders}
 use Rattle.trace.specs.Route.{route, routeFrom}
 use Rattle.trace.proofs.Bools.{which, and-left, and-right}
-use Rattle.trace.proofs.Names.{Distinct}
 use Rattle.trace.proofs.Run.{names-distinct}
 use Rattle.trace.proofs.SameChained.{one-way}
 use Rattle.trace.proofs.Verdict.{SameParts, same-parts}
@@ -59,8 +58,8 @@ once : (table schedule : List ℕ) → accepted (machine table) initial schedule
 once table schedule fine = names-distinct (laws table) initial schedule (inv-initial table) fine
 
 -- schedules of different lengths are different
-pub lengths-apart : (table first second : List ℕ) → (length first ≡ length second → ⊥) → same (machine table) initial first second ≡ false
-unfolding same
+pub lengths-apart : (table first second : List ℕ) → (length first ≡ length second → ⊥) → equivalent (machine table) initial first second ≡ false
+unfolding equivalent
 lengths-apart table first second h = rw (ne-eqb (length first) (length second) h)
 
 module _ (table first second firstBytes secondBytes : List ℕ) (first-fine : accepted (machine table) initial first ≡ true)
@@ -69,7 +68,7 @@ module _ (table first second firstBytes secondBytes : List ℕ) (first-fine : ac
   second-names : namesIn (length first) secondBytes ≡ names (machine table) initial second
   second-names = ap (λ (m : ℕ). namesIn m secondBytes) long ∙ J .names-right
 
-  pub comparable : Accepted table → Compared table firstBytes secondBytes (length first)
+  pub comparable : WellFormed table → Compared table firstBytes secondBytes (length first)
   comparable ok =
       record {
         accepted = ok;
@@ -83,15 +82,15 @@ module _ (table first second firstBytes secondBytes : List ℕ) (first-fine : ac
       }
 
   -- of schedules of one length, the verdict is whether the first's names are the second's, and no dependent pair is in opposite orders
-  by-names : same (machine table) initial first second
+  by-names : equivalent (machine table) initial first second
       ≡ (within (names (machine table) initial first) (names (machine table) initial second)
       && not (reorders (depends table) (names (machine table) initial first) (names (machine table) initial second)))
-  unfolding same
+  unfolding equivalent
   by-names = go (which (within (names (machine table) initial first) (names (machine table) initial second)))
     where
       go : (within (names (machine table) initial first) (names (machine table) initial second) ≡ true)
           ⊎ (within (names (machine table) initial first) (names (machine table) initial second) ≡ false)
-          → same (machine table) initial first second
+          → equivalent (machine table) initial first second
           ≡ (within (names (machine table) initial first) (names (machine table) initial second)
           && not (reorders (depends table) (names (machine table) initial first) (names (machine table) initial second)))
       go (inl w) =
@@ -103,7 +102,7 @@ module _ (table first second firstBytes secondBytes : List ℕ) (first-fine : ac
   pub verdict : (r : Bool)
       → r ≡ (within (namesIn (length first) firstBytes) (namesIn (length first) secondBytes)
       && not (reorders (depends table) (namesIn (length first) firstBytes) (namesIn (length first) secondBytes)))
-      → same (machine table) initial first second ≡ r
+      → equivalent (machine table) initial first second ≡ r
   verdict r e = by-names ∙ sym (rw (K .names-right, second-names) at e)
 
   -- the route by names is the schedules' route
@@ -111,7 +110,7 @@ module _ (table first second firstBytes secondBytes : List ℕ) (first-fine : ac
   unfolding route
   route-names = rw (K .names-right, second-names)
 
-  pub routable : (buffer : List ℕ) → same (machine table) initial first second ≡ true → mostExchanges (length first) ≤ length buffer
+  pub routable : (buffer : List ℕ) → equivalent (machine table) initial first second ≡ true → mostExchanges (length first) ≤ length buffer
       → Routable firstBytes secondBytes (length first) buffer
   routable buffer alike room =
       let parts : SameParts (machine table) initial first second = same-parts (machine table) initial first second alike in

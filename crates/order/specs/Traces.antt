@@ -6,7 +6,7 @@ use mathlib.Core.List.{List}
 use lib.ListN.{length}
 use Rattle.table.specs.Outcome.{accepted}
 use Rattle.table.specs.Read.{readOf}
-use Rattle.table.specs.Promise.{Accepted}
+use Rattle.table.specs.Promise.{WellFormed}
 use Rattle.trace.specs.Schedule.{names}
 use Rattle.model.specs.Site.{initial}
 use Rattle.model.specs.Schedule.{machine, RefusalNumbers, firstNumbers, secondNumbers, checkSchedule}
@@ -33,7 +33,7 @@ pub record Traced (table schedule bytes : List ℕ) (halt : Halt) : Type 0 where
 -- the table and the first schedule are accepted, and there is room for the second's names
 pub record Following (table first firstBytes secondBytes : List ℕ) : Type 0 where
   pub read : readOf table ≡ accepted
-  pub promise : Accepted table
+  pub promise : WellFormed table
   pub first-fine : checkSchedule firstNumbers table first ≡ accepted
   pub first-kept : Kept table first firstBytes
   pub room : length secondBytes ≡ 256
@@ -41,7 +41,7 @@ pub record Following (table first firstBytes secondBytes : List ℕ) : Type 0 wh
 -- the table and both schedules are accepted
 pub record Judged (table first second firstBytes secondBytes : List ℕ) : Type 0 where
   pub read : readOf table ≡ accepted
-  pub promise : Accepted table
+  pub promise : WellFormed table
   pub first-fine : checkSchedule firstNumbers table first ≡ accepted
   pub second-fine : checkSchedule secondNumbers table second ≡ accepted
   pub first-kept : Kept table first firstBytes

@@ -35,7 +35,7 @@ pub fn run(table: &[u8], schedule: &[u8], report: &mut [u8]) -> RunAnswer
         return RunAnswer::SmallBuffer;
     }
     let reading = table::read(table);
-    let Reading::Accepted = reading else {
+    let Reading::Valid = reading else {
         return RunAnswer::Table(reading);
     };
     let mut comms = [0u64; 256];
@@ -93,7 +93,7 @@ pub fn ready(table: &[u8], schedule: &[u8]) -> ReadyAnswer
     ensures { λ r. ⌜ readyResult r ≡ readyOf (now (table .entry)) (now (schedule .entry)) ⌝ }
 {
     let reading = table::read(table);
-    let Reading::Accepted = reading else {
+    let Reading::Valid = reading else {
         return ReadyAnswer::Table(reading);
     };
     let mut comms = [0u64; 256];
@@ -139,7 +139,7 @@ pub fn pair(table: &[u8], actor: u8, action: u8, actor2: u8, action2: u8) -> Pai
     ensures { λ r. ⌜ pairResult r ≡ pairOf (now (table .entry)) (name actor action) (name actor2 action2) ⌝ }
 {
     let reading = table::read(table);
-    let Reading::Accepted = reading else {
+    let Reading::Valid = reading else {
         return PairAnswer::Table(reading);
     };
     let a = actor as usize;

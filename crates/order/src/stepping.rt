@@ -1,7 +1,7 @@
 // What the calls on two schedules share: each schedule is stepped in arrays of its own, and only the names of its steps are kept.
 ghost use mathlib.Core.Path.{_≡_};
 ghost use lib.ListN.{length};
-ghost use Rattle.table.specs.Promise.{Accepted};
+ghost use Rattle.table.specs.Promise.{WellFormed};
 ghost use Rattle.order.specs.Traces.{Traced, Following, Judged, ComparedRight};
 use crate::SameAnswer;
 use engine::play;
@@ -22,7 +22,7 @@ pub(crate) fn compared(
     ensures { λ r. ⌜ ComparedRight (now (table .entry)) (now (first .entry)) (now (second .entry)) (now (names .exit)) (now (others .exit)) r ⌝ }
 {
     let reading = table::read(table);
-    let Reading::Accepted = reading else {
+    let Reading::Valid = reading else {
         return SameAnswer::Table(reading);
     };
     let halt = trace_of(table, first, names);
@@ -78,7 +78,7 @@ fn judge(
 
 // Steps a schedule from a fresh site, as far as the first entry that is refused. `names` is left with the names of its steps, where it is accepted.
 fn trace_of(table: &[u8], schedule: &[u8], names: &mut [u8; 256]) -> Halt
-    requires { ⌜ Accepted (now table) × (length (now names) ≡ 256) ⌝ }
+    requires { ⌜ WellFormed (now table) × (length (now names) ≡ 256) ⌝ }
     ensures { λ r. ⌜ Traced (now (table .entry)) (now (schedule .entry)) (now (names .exit)) r ⌝ }
 {
     let mut comms = [0u64; 256];

@@ -11,7 +11,7 @@ use Rattle.table.specs.Outcome.{accepted}
 use Rattle.table.specs.Format.{kindAt, pAt, qAt, zAt, listedAt, valueAt, placeOf}
 use Rattle.table.specs.Kinds.{nothing}
 use Rattle.table.specs.Read.{checkOf, restClear}
-use Rattle.table.specs.Parts.{Plain, pairOf, loneOf, limitsOf, qUnder, valueUnder}
+use Rattle.table.specs.Parts.{Plain, twoFieldsOf, loneOf, limitsOf, qUnder, valueUnder}
 use Rattle.table.proofs.Forms.{one-kind}
 use Rattle.table.proofs.Blanks.{value-bytes}
 
@@ -29,7 +29,7 @@ module _ (b : List ℕ) (first k : ℕ) where
         eq-eqb (listedAt b at 3) 0 (omega (arith, value-bytes b at)),
       )
 
-  two-fields : (limit : ℕ) → pAt b at < limit → qAt b at < 8 → zAt b at ≡ 0 → valueAt b at < 1 → pairOf b at limit ≡ accepted
+  two-fields : (limit : ℕ) → pAt b at < limit → qAt b at < 8 → zAt b at ≡ 0 → valueAt b at < 1 → twoFieldsOf b at limit ≡ accepted
   two-fields limit p q z none = rw (lt-ltb (pAt b at) limit p, lt-ltb (qAt b at) 8 q) (rest-clear z none)
 
   one-field : (limit : ℕ) → pAt b at < limit → qAt b at < 1 → zAt b at ≡ 0 → valueAt b at < 1 → loneOf b at limit ≡ accepted

@@ -15,7 +15,7 @@ use Rattle.table.specs.Format.{editionOf, actorsOf, mailboxesOf, mutexes
 use Rattle.table.specs.Kinds.{Form, formOf, lastKind, actions, mutexes, mutex}
 use Rattle.table.specs.Decode.{numbersAt, decodeAs, actionOf}
 use Rattle.table.specs.Read.{headerOf, directoryOf, endOf, actionsOf, actorOf, checkOf, entryOf, readOf, fieldsOf, fits, listFits, listAllowed, clear, restClear, allowed, posts}
-use Rattle.table.specs.Promise.{number, Listing, isPost, LowerPost, InRange, Accepted}
+use Rattle.table.specs.Promise.{number, Listing, isPost, LowerPost, InRange, WellFormed}
 use Rattle.table.proofs.Checks.{which, then-left, then-right, demand-true, and-left, and-right, each-at}
 use Rattle.table.proofs.Placed.{count-most, inside}
 
@@ -130,7 +130,7 @@ module _ (b : List ℕ) (actor k : ℕ) where
 abbrev counts : List ℕ → Outcome
 counts b = demand (leb 1 (actorsOf b) && leb (actorsOf b) 8) 3 0 ⨾ demand (leb (mailboxesOf b) 8) 3 0 ⨾ demand (leb (mutexesOf b) 8) 3 0
 
-pub promised : (b : List ℕ) → readOf b ≡ accepted → Accepted b
+pub promised : (b : List ℕ) → readOf b ≡ accepted → WellFormed b
 unfolding readOf
 promised b right =
     let header : headerOf b ≡ accepted = then-left (headerOf b) _ right in

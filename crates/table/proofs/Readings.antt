@@ -1,4 +1,4 @@
--- What a test of a reading's variant says of its outcome: `Accepted` accepts, and every other variant refuses, so that nothing after it counts.
+-- What a test of a reading's variant says of its outcome: `Valid` accepts, and every other variant refuses, so that nothing after it counts.
 -- Assumes nothing.
 use mathlib.Core.Path.{_≡_, refl, _∙_, ap, sym}
 use mathlib.Core.List.{List, [], _∷_}
@@ -7,7 +7,7 @@ use native.Mathlib.Omega.{arith}
 use denote.Enum.Declared.{tagOf, declared}
 use types.Run.{OneOf, miss}
 use Rattle.table.specs.declared.Reading.{Reading}
-use Rattle.table.specs.declared.Reading.the-variants.{Accepted, Short, Edition, Counts, Directory, Length, Kind, Range, Listed, Unused}
+use Rattle.table.specs.declared.Reading.the-variants.{Valid, Short, Edition, Counts, Directory, Length, Kind, Range, Listed, Unused}
 use Rattle.table.specs.Outcome.{Outcome, accepted, refused, _⨾_, each, numberOf, positionOf}
 use Rattle.table.specs.Answer.{outcome}
 use Rattle.table.proofs.Reading.{enum}
@@ -16,12 +16,12 @@ use Rattle.table.proofs.Checks.{each-next}
 abbrev variant : Reading → ℕ
 variant r = tagOf (declared enum) r
 
--- the variants after `Accepted`
+-- the variants after `Valid`
 abbrev refusals : List ℕ
 refusals = 1 ∷ 2 ∷ 3 ∷ 4 ∷ 5 ∷ 6 ∷ 7 ∷ 8 ∷ 9 ∷ []
 
 pub accepts : (r : Reading) → variant r ≡ 0 → outcome r ≡ accepted
-accepts Accepted e = refl
+accepts Valid e = refl
 accepts Short e = absurd (omega arith)
 accepts Edition e = absurd (omega arith)
 accepts Counts e = absurd (omega arith)
@@ -34,7 +34,7 @@ accepts (Unused at) e = absurd (omega arith)
 
 -- a reading that refuses has a number and a position
 pub refusing : (r : Reading) → OneOf refusals (variant r) → outcome r ≡ refused (numberOf (outcome r)) (positionOf (outcome r))
-refusing Accepted h = absurd (miss refusals 0 tt h)
+refusing Valid h = absurd (miss refusals 0 tt h)
 refusing Short h = refl
 refusing Edition h = refl
 refusing Counts h = refl

@@ -12,13 +12,13 @@ use Rattle.table.specs.declared.Reading.the-variants as reading
 use Rattle.table.specs.Outcome.{Outcome, accepted, refused, demand, _⨾_, each}
 use Rattle.table.specs.Format.{editionOf, actorsOf, mailboxesOf, mutexesOf}
 use Rattle.table.specs.Read.{headerOf, directoryOf, endOf, actionsOf, entryOf, readOf}
-use Rattle.table.specs.Promise.{Accepted}
+use Rattle.table.specs.Promise.{WellFormed}
 use Rattle.table.specs.Answer.{outcome}
 use Rattle.table.proofs.Promise.{promised}
 
 module _ (b : List ℕ) where
   -- an answer whose outcome is `readOf`'s keeps the promise too
-  pub answered : (r : Reading) → outcome r ≡ readOf b → (outcome r ≡ readOf b) × (r ≡ reading.Accepted → Accepted b)
+  pub answered : (r : Reading) → outcome r ≡ readOf b → (outcome r ≡ readOf b) × (r ≡ reading.Valid → WellFormed b)
   answered r e = (e, λ accepts. promised b (sym e ∙ ap outcome accepts))
 
   pub header-refuses : (number : ℕ) → headerOf b ≡ refused number 0 → refused number 0 ≡ readOf b

@@ -32,8 +32,8 @@ abbrev pub Room : List ℕ → ℕ → Type 0
 Room b at = (at + 8 ≤ length b) × (length b ≤ tableMost)
 
 -- p below a limit, q a cell, all else unused: Add, Lesser, Send, Receive
-abbrev pub pairOf : List ℕ → ℕ → ℕ → Outcome
-pairOf b at limit = demand (ltb (pAt b at) limit) 7 at ⨾ demand (ltb (qAt b at) 8) 7 at ⨾ restClear b at nothing
+abbrev pub twoFieldsOf : List ℕ → ℕ → ℕ → Outcome
+twoFieldsOf b at limit = demand (ltb (pAt b at) limit) 7 at ⨾ demand (ltb (qAt b at) 8) 7 at ⨾ restClear b at nothing
 
 -- p below a limit, all else unused: Lock, Unlock
 abbrev pub loneOf : List ℕ → ℕ → ℕ → Outcome

@@ -53,7 +53,7 @@ InRange b actor k (Unlock mutex) = mutex < mutexesOf b
 InRange b actor k (MutexTest result list) = (result < 8) × Listing (λ m. m < mutexesOf b) list
 InRange b actor k (MutexWait result list) = (result < 8) × Listing (λ m. m < mutexesOf b) list
 
-pub record Accepted (b : List ℕ) : Type 0 where
+pub record WellFormed (b : List ℕ) : Type 0 where
   pub actors-least : 1 ≤ actorsOf b
   pub actors-most : actorsOf b ≤ 8
   pub mailboxes-most : mailboxesOf b ≤ 8

@@ -60,12 +60,12 @@ fn all(t: &[u8], actors: usize, mailboxes: usize, mutexes: usize) -> Reading
             &seconds,
             &values,
         );
-        let Reading::Accepted = r else {
+        let Reading::Valid = r else {
             return r;
         };
         a += 1;
     }
-    Reading::Accepted
+    Reading::Valid
 }
 
 // One actor's actions.
@@ -86,10 +86,10 @@ fn own(
     let mut k = 0;
     while k < count {
         let r = fields::check(t, first, k, mailboxes, mutexes, limits, seconds, values);
-        let Reading::Accepted = r else {
+        let Reading::Valid = r else {
             return r;
         };
         k += 1;
     }
-    Reading::Accepted
+    Reading::Valid
 }

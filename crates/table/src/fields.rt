@@ -8,7 +8,7 @@ ghost use Rattle.table.specs.Format.{mailboxesOf, mutexesOf, valueAt, pl
 ghost use Rattle.table.specs.Kinds.{form, cell, unused, value};
 ghost use Rattle.table.specs.Read.{checkOf, fieldsOf, blanks};
 ghost use Rattle.table.specs.Answer.{outcome};
-ghost use Rattle.table.specs.Parts.{Room, Plain, limitsOf, qUnder, valueUnder, pairOf, loneOf, allBelow, allPosts, listOf};
+ghost use Rattle.table.specs.Parts.{Room, Plain, limitsOf, qUnder, valueUnder, twoFieldsOf, loneOf, allBelow, allPosts, listOf};
 use crate::Reading;
 use crate::bytes;
 
@@ -28,7 +28,7 @@ pub fn check(
     ensures { λ r. ⌜ outcome r ≡ checkOf (now (t .entry)) first k ⌝ }
 {
     if plain(t, first + 8 * k, limits, seconds, values) {
-        return Reading::Accepted;
+        return Reading::Valid;
     }
     exact(t, first, k, mailboxes, mutexes)
 }
@@ -96,13 +96,13 @@ fn set(t: &[u8], first: usize, k: usize) -> Reading
     if t[at + 3] != 0 {
         return Reading::Unused(at as u32);
     }
-    Reading::Accepted
+    Reading::Valid
 }
 
 // Add, Lesser, Send, Receive: p below a limit, and a cell.
 fn pair(t: &[u8], at: usize, limit: usize) -> Reading
     requires { ⌜ Room (now t) at ⌝ }
-    ensures { λ r. ⌜ outcome r ≡ pairOf (now (t .entry)) at limit ⌝ }
+    ensures { λ r. ⌜ outcome r ≡ twoFieldsOf (now (t .entry)) at limit ⌝ }
 {
     if limit <= bytes::wide(t[at + 1]) {
         return Reading::Range(at as u32);
@@ -114,7 +114,7 @@ fn pair(t: &[u8], at: usize, limit: usize) -> Reading
         return Reading::Unused(at as u32);
     }
     if blank(t, at, 0) {
-        return Reading::Accepted;
+        return Reading::Valid;
     }
     Reading::Unused(at as u32)
 }
@@ -134,7 +134,7 @@ fn lone(t: &[u8], at: usize, limit: usize) -> Reading
         return Reading::Unused(at as u32);
     }
     if blank(t, at, 0) {
-        return Reading::Accepted;
+        return Reading::Valid;
     }
     Reading::Unused(at as u32)
 }
@@ -160,7 +160,7 @@ fn any(t: &[u8], first: usize, k: usize) -> Reading
             return Reading::Unused(at as u32);
         }
         if blank(t, at, z) {
-            return Reading::Accepted;
+            return Reading::Valid;
         }
         return Reading::Unused(at as u32);
     }
@@ -187,7 +187,7 @@ fn mutex_any(t: &[u8], at: usize, limit: usize) -> Reading
             return Reading::Unused(at as u32);
         }
         if blank(t, at, z) {
-            return Reading::Accepted;
+            return Reading::Valid;
         }
         return Reading::Unused(at as u32);
     }

@@ -3,7 +3,7 @@ ghost use mathlib.Core.Path.{_≡_};
 ghost use Rattle.table.specs.Outcome.{numberOf, positionOf};
 ghost use Rattle.table.specs.Answer.{outcome};
 ghost use Rattle.table.specs.Read.{readOf};
-ghost use Rattle.table.specs.Promise.{Accepted};
+ghost use Rattle.table.specs.Promise.{WellFormed};
 
 pub mod access;
 mod bytes;
@@ -37,7 +37,7 @@ pub enum Action {
 
 // What the reader finds: the table is accepted, or the first thing that is wrong, with the offset of the action that it is in.
 pub enum Reading {
-    Accepted,
+    Valid,
     Short,
     Edition,
     Counts,
@@ -55,7 +55,7 @@ impl Reading {
         ensures { λ r. ⌜ r ≡ numberOf (outcome self) ⌝ }
     {
         match self {
-            Reading::Accepted => 0,
+            Reading::Valid => 0,
             Reading::Short => 1,
             Reading::Edition => 2,
             Reading::Counts => 3,
@@ -73,7 +73,7 @@ impl Reading {
         ensures { λ r. ⌜ r ≡ positionOf (outcome self) ⌝ }
     {
         match self {
-            Reading::Accepted => 0,
+            Reading::Valid => 0,
             Reading::Short => 0,
             Reading::Edition => 0,
             Reading::Counts => 0,
@@ -90,7 +90,7 @@ impl Reading {
 // Reads a file of any length: whether it is a task table.
 pub fn read(table: &[u8]) -> Reading
     ensures { λ r. ⌜ outcome r ≡ readOf (now (table .entry)) ⌝ }
-    ensures { λ r. ⌜ (r ≡ Reading.Accepted → Accepted (now (table .entry))) ⌝ }
+    ensures { λ r. ⌜ (r ≡ Reading.Valid → WellFormed (now (table .entry))) ⌝ }
 {
     if table.len() < 4 {
         return Reading::Short;

@@ -4,14 +4,14 @@ ghost use Prim.Native.Nat.{_+_, _<_, _≤_};
 ghost use lib.ListN.{length};
 ghost use Rattle.table.specs.Format.{byteAt, longAt, actorsOf, countOf};
 ghost use Rattle.table.specs.Decode.{actionOf, decode as decoded, numbersAt};
-ghost use Rattle.table.specs.Promise.{Accepted};
+ghost use Rattle.table.specs.Promise.{WellFormed};
 use crate::Action;
 use crate::Numbers;
 use crate::bytes;
 
 // An action, by its actor and its number.
 pub fn action(table: &[u8], actor: usize, k: usize) -> Action
-    requires { ⌜ Accepted (now table) × (actor < actorsOf (now table)) × (k < countOf (now table) actor) ⌝ }
+    requires { ⌜ WellFormed (now table) × (actor < actorsOf (now table)) × (k < countOf (now table) actor) ⌝ }
     ensures { λ r. ⌜ r ≡ actionOf (now (table .entry)) actor k ⌝ }
 {
     let first = bytes::word(table, 4 + 4 * actor);

@@ -9,11 +9,11 @@ use mathlib.Core.Bool.{Bool, true, false, and-false, false≢true}
 use mathlib.Core.List.{List, [], _∷_}
 use lib.ListN.{length, length-append}
 use Rattle.trace.specs.Machine.{Name}
-use Rattle.trace.specs.Order.{eqName, mem, before, count, inversions}
+use Rattle.trace.specs.Order.{eqName, mem, before, count, inversions, Distinct}
 use Rattle.trace.specs.Chain.{swapAt}
 use Rattle.trace.specs.Route.{place, remove, pull, routeFrom}
 use Rattle.trace.proofs.Bools.{which, contrary, is-false, or-false-right}
-use Rattle.trace.proofs.Names.{eqName-refl, eqName-true, mem-head, mem-tail, mem-cases, before-head, before-tail, before-absent, before-asym, Distinct}
+use Rattle.trace.proofs.Names.{eqName-refl, eqName-true, mem-head, mem-tail, mem-cases, before-head, before-tail, before-absent, before-asym}
 use Rattle.trace.proofs.Remove.{remove-gone}
 use Rattle.trace.proofs.Linked.{Linked}
 use Rattle.trace.proofs.SameNames.{SameNames, same-nil, same-head, same-tail}

@@ -7,7 +7,7 @@ use mathlib.Core.List.{List, [], _∷_}
 use borrow.Author.Tests.{eqb-true, eq-eqb}
 use lib.Dec.{eqb}
 use Rattle.trace.specs.Machine.{Name}
-use Rattle.trace.specs.Order.{eqName, mem, within, before, any}
+use Rattle.trace.specs.Order.{eqName, mem, within, before, any, Distinct}
 use Rattle.trace.proofs.Bools.{contrary, is-false, both, and-left, and-right, or-left, or-right, or-cases}
 
 pub eqName-refl : (x : Name) → eqName x x ≡ true
@@ -92,10 +92,6 @@ pub before-absent : (x y : Name) (l : List Name) → mem y l ≡ false → befor
 before-absent x y l n = is-false _ (λ b. contrary (before-mem x y l b .1) n)
 
 -- ---- a list that holds no name twice
-
-abbrev pub Distinct : List Name → Type 0
-Distinct [] = Unit {0}
-Distinct (x ∷ l) = (mem x l ≡ false) × Distinct l
 
 pub before-asym : (x y : Name) (l : List Name) → Distinct l → before x y l ≡ true → before y x l ≡ false
 before-asym x y [] d h = refl

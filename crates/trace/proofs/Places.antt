@@ -11,11 +11,11 @@ use borrow.Author.Tests.{lt-ltb, le-ltb}
 use lib.Dec.{ltb, leb·suc-suc}
 use lib.ListN.{length, getD}
 use Rattle.trace.specs.Machine.{Name}
-use Rattle.trace.specs.Order.{eqName, mem, before}
+use Rattle.trace.specs.Order.{eqName, mem, before, Distinct}
 use Rattle.trace.specs.Same.{reorders}
 use Rattle.trace.specs.Route.{place}
 use Rattle.trace.proofs.Bools.{which, contrary, is-false, both, and-left, and-right}
-use Rattle.trace.proofs.Names.{eqName-true, mem-head, mem-tail, mem-cases, before-head, before-tail, before-cases, before-absent, Distinct}
+use Rattle.trace.proofs.Names.{eqName-true, mem-head, mem-tail, mem-cases, before-head, before-tail, before-cases, before-absent}
 use Rattle.trace.proofs.Reorders.{Reordered, reorders-of, reorders-some}
 
 -- ---- in a list that holds no name twice, the name at the lower place stands before the other

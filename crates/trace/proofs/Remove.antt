@@ -5,10 +5,10 @@ use mathlib.Core.Logic.{_⊎_, inl, inr, _≢_}
 use mathlib.Core.Bool.{true, false}
 use mathlib.Core.List.{List, [], _∷_}
 use Rattle.trace.specs.Machine.{Name}
-use Rattle.trace.specs.Order.{eqName, mem, before}
+use Rattle.trace.specs.Order.{eqName, mem, before, Distinct}
 use Rattle.trace.specs.Route.{remove}
 use Rattle.trace.proofs.Bools.{which, contrary, is-false}
-use Rattle.trace.proofs.Names.{eqName-true, mem-head, mem-tail, mem-cases, before-cases, before-tail, before-head, Distinct}
+use Rattle.trace.proofs.Names.{eqName-true, mem-head, mem-tail, mem-cases, before-cases, before-tail, before-head}
 
 -- what else the list holds is left
 pub mem-remove : (x y : Name) (u : List Name) → x ≢ y → mem x u ≡ true → mem x (remove y u) ≡ true

@@ -12,10 +12,10 @@ use lib.Dec.{eqb}
 use lib.ListN.{length}
 use Rattle.trace.specs.Machine.{Machine, Laws, Name, nameOf}
 use Rattle.trace.specs.Schedule.{accepted, final, names}
-use Rattle.trace.specs.Order.{mem}
-use Rattle.trace.specs.Theorems.{has, StaysReady}
+use Rattle.trace.specs.Order.{mem, Distinct, has}
+use Rattle.trace.specs.Theorems.{StaysReady}
 use Rattle.trace.proofs.Bools.{which, is-false, and-left, and-right, or-false-left, or-false-right}
-use Rattle.trace.proofs.Names.{mem-cases, Distinct}
+use Rattle.trace.proofs.Names.{mem-cases}
 
 module _ (M : Machine) where
   -- a schedule is its names' actors

@@ -10,7 +10,7 @@ use Rattle.trace.specs.Machine.{Machine, Laws, Name}
 use Rattle.trace.specs.Schedule.{accepted, names}
 use Rattle.trace.specs.Order.{before, within}
 use Rattle.trace.specs.Chain.{Chain, Chained}
-use Rattle.trace.specs.Same.{same}
+use Rattle.trace.specs.Same.{equivalent}
 use Rattle.trace.specs.Route.{route}
 use Rattle.trace.proofs.Bools.{contrary, is-false}
 use Rattle.trace.proofs.Names.{within-mem, mem-within, before-asym}
@@ -23,7 +23,7 @@ use Rattle.trace.proofs.Pull.{route-linked}
 use Rattle.trace.proofs.Verdict.{SameParts, same-parts, parts-same}
 
 module _ {M : Machine} {Inv : M .State → Type 0} (L : Laws M Inv) (s : M .State) (i : Inv s) where
-  pub same-names : (p q : List ℕ) → accepted M s p ≡ true → accepted M s q ≡ true → same M s p q ≡ true → SameNames (names M s p) (names M s q)
+  pub same-names : (p q : List ℕ) → accepted M s p ≡ true → accepted M s q ≡ true → equivalent M s p q ≡ true → SameNames (names M s p) (names M s q)
   same-names p q hp hq h =
       let e : SameParts M s p q = same-parts M s p q h in
       record {
@@ -41,7 +41,7 @@ module _ {M : Machine} {Inv : M .State → Type 0} (L : Laws M Inv) (s : M .Stat
       (in-both (names M s p) (names M s q) (names-distinct L s p i hp) (names-length M s p ∙ l ∙ sym (names-length M s q))
       (within-mem (names M s p) (names M s q) w))
 
-  pub route-chain : (p q : List ℕ) → accepted M s p ≡ true → accepted M s q ≡ true → same M s p q ≡ true → Chain M s (route M s p q) p q
+  pub route-chain : (p q : List ℕ) → accepted M s p ≡ true → accepted M s q ≡ true → equivalent M s p q ≡ true → Chain M s (route M s p q) p q
   unfolding route
   route-chain p q hp hq h =
       linked-chain L s i (route M s p q) p q hp (route-linked (M .dep) (names M s q) (names M s p) [] (same-names p q hp hq h) in-order)
@@ -53,7 +53,7 @@ module _ {M : Machine} {Inv : M .State → Type 0} (L : Laws M Inv) (s : M .Stat
           (same-parts M s p q h .in-order))
 
   -- a chain keeps the length, the names and the order of each dependent pair
-  chain-same : (p q ks : List ℕ) → accepted M s p ≡ true → Chain M s ks p q → same M s p q ≡ true
+  chain-same : (p q ks : List ℕ) → accepted M s p ≡ true → Chain M s ks p q → equivalent M s p q ≡ true
   chain-same p q ks hp c =
       parts-same M s p q (record {
         lengths = sym (names-length M s p) ∙ linked-length (M .dep) ks (names M s p) (names M s q) l ∙ names-length M s q;
@@ -73,5 +73,5 @@ module _ {M : Machine} {Inv : M .State → Type 0} (L : Laws M Inv) (s : M .Stat
           contrary (kept ∙ r .second) (before-asym (r .x) (r .y) (names M s p) (names-distinct L s p i hp) (r .first))
 
   -- T3
-  pub same-chained : (p q : List ℕ) → accepted M s p ≡ true → accepted M s q ≡ true → (same M s p q ≡ true) ↔ Chained M s p q
+  pub same-chained : (p q : List ℕ) → accepted M s p ≡ true → accepted M s q ≡ true → (equivalent M s p q ≡ true) ↔ Chained M s p q
   same-chained p q hp hq = (λ h. (route M s p q, route-chain p q hp hq h), λ c. chain-same p q (c .0) hp (c .1))

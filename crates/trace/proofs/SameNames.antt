@@ -8,10 +8,10 @@ use mathlib.Core.Bool.{true, false, false≢true}
 use mathlib.Core.List.{List, [], _∷_}
 use lib.ListN.{length}
 use Rattle.trace.specs.Machine.{Name}
-use Rattle.trace.specs.Order.{eqName, mem}
+use Rattle.trace.specs.Order.{eqName, mem, Distinct}
 use Rattle.trace.specs.Route.{remove}
 use Rattle.trace.proofs.Bools.{which, contrary}
-use Rattle.trace.proofs.Names.{eqName-refl, mem-head, mem-tail, mem-cases, Distinct}
+use Rattle.trace.proofs.Names.{eqName-refl, mem-head, mem-tail, mem-cases}
 use Rattle.trace.proofs.Remove.{mem-remove, remove-mem, remove-gone, remove-distinct}
 
 pub record SameNames (u v : List Name) : Type 0 where

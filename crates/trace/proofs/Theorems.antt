@@ -9,7 +9,7 @@ use Rattle.trace.specs.Machine.{Machine, Laws}
 use Rattle.trace.specs.Schedule.{accepted, names}
 use Rattle.trace.specs.Order.{inversions}
 use Rattle.trace.specs.Chain.{Chain}
-use Rattle.trace.specs.Same.{same}
+use Rattle.trace.specs.Same.{equivalent}
 use Rattle.trace.specs.Route.{route}
 use Rattle.trace.specs.Theorems.{ShortestRoute, Theorems}
 use Rattle.trace.proofs.Run.{stays-ready, names-distinct, names-length}
@@ -18,13 +18,13 @@ use Rattle.trace.proofs.SameChained.{same-names, route-chain, same-chai
 use Rattle.trace.proofs.Inversions.{route-length, no-shorter, inversions-bound}
 
 module _ {M : Machine} {Inv : M .State → Type 0} (L : Laws M Inv) (s : M .State) (i : Inv s) where
-  route-inversions : (p q : List ℕ) → accepted M s p ≡ true → accepted M s q ≡ true → same M s p q ≡ true
+  route-inversions : (p q : List ℕ) → accepted M s p ≡ true → accepted M s q ≡ true → equivalent M s p q ≡ true
       → length (route M s p q) ≡ inversions (names M s p) (names M s q)
   unfolding route
   route-inversions p q hp hq h = route-length (names M s q) (names M s p) 0 (same-names L s i p q hp hq h)
 
   -- T4
-  pub shortest-route : (p q : List ℕ) → accepted M s p ≡ true → accepted M s q ≡ true → same M s p q ≡ true → ShortestRoute M s p q
+  pub shortest-route : (p q : List ℕ) → accepted M s p ≡ true → accepted M s q ≡ true → equivalent M s p q ≡ true → ShortestRoute M s p q
   shortest-route p q hp hq h =
       let c : Chain M s (route M s p q) p q = route-chain L s i p q hp hq h in
       let l : length (route M s p q) ≡ inversions (names M s p) (names M s q) = route-inversions p q hp hq h in

@@ -10,7 +10,7 @@ use lib.ListN.{length}
 use Rattle.trace.specs.Machine.{Machine}
 use Rattle.trace.specs.Schedule.{names}
 use Rattle.trace.specs.Order.{within}
-use Rattle.trace.specs.Same.{same, reorders}
+use Rattle.trace.specs.Same.{equivalent, reorders}
 use Rattle.trace.proofs.Bools.{both, and-left, and-right}
 
 pub record SameParts (M : Machine) (s : M .State) (p q : List ℕ) : Type 0 where
@@ -20,8 +20,8 @@ pub record SameParts (M : Machine) (s : M .State) (p q : List ℕ) : Type 0 wher
   pub in-order : reorders (M .dep) (names M s p) (names M s q) ≡ false
 
 module _ (M : Machine) (s : M .State) (p q : List ℕ) where
-  pub same-parts : same M s p q ≡ true → SameParts M s p q
-  unfolding same
+  pub same-parts : equivalent M s p q ≡ true → SameParts M s p q
+  unfolding equivalent
   same-parts h =
       let l : Bool = eqb (length p) (length q) in
       let a : Bool = within (names M s p) (names M s q) in
@@ -36,6 +36,6 @@ module _ (M : Machine) (s : M .State) (p q : List ℕ) where
         in-order = not-true r (and-right (l && (a && b)) (not r) h);
       }
 
-  pub parts-same : SameParts M s p q → same M s p q ≡ true
-  unfolding same
+  pub parts-same : SameParts M s p q → equivalent M s p q ≡ true
+  unfolding equivalent
   parts-same e = both (both (eq-eqb (length p) (length q) (e .lengths)) (both (e .in-second) (e .in-first))) (rw (e .in-order))

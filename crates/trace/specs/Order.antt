@@ -1,6 +1,7 @@
 -- Lists of step names: which names they hold, and in which order.
 -- Assumes nothing: these are definitions.
 use Prim.Native.Nat.{ℕ, zero, _+_}
+use mathlib.Core.Path.{_≡_}
 use mathlib.Core.Bool.{Bool, true, false, _&&_, _||_, cond}
 use mathlib.Core.List.{List, [], _∷_}
 use lib.Dec.{eqb}
@@ -25,6 +26,11 @@ abbrev pub before : Name → Name → List Name → Bool
 before x y [] = false
 before x y (z ∷ l) = (eqName x z && mem y l) || before x y l
 
+-- a list that holds no name twice
+abbrev pub Distinct : List Name → Type 0
+Distinct [] = Unit {0}
+Distinct (x ∷ l) = (mem x l ≡ false) × Distinct l
+
 -- some member passes the test
 abbrev pub any : (Name → Bool) → List Name → Bool
 any f [] = false
@@ -40,3 +46,8 @@ count f (x ∷ l) = cond (f x) 1 0 + count f l
 abbrev pub inversions : List Name → List Name → ℕ
 inversions [] v = zero
 inversions (x ∷ u) v = count (λ y. before y x v) u + inversions u v
+
+-- an actor has an entry in a schedule
+abbrev pub has : List ℕ → ℕ → Bool
+has [] a = false
+has (b ∷ p) a = eqb a b || has p a

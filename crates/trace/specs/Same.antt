@@ -15,7 +15,7 @@ reorders dep [] v = false
 reorders dep (x ∷ u) v = any (λ y. dep x y && before y x v) u || reorders dep u v
 
 -- two schedules are the same when they have equal lengths, run the same step names, and run no dependent pair in opposite orders
-unfoldable pub same : (M : Machine) → M .State → List ℕ → List ℕ → Bool
-same M s p q =
+unfoldable pub equivalent : (M : Machine) → M .State → List ℕ → List ℕ → Bool
+equivalent M s p q =
     eqb (length p) (length q) && (within (names M s p) (names M s q) && within (names M s q) (names M s p))
     && not (reorders (M .dep) (names M s p) (names M s q))

@@ -4,21 +4,15 @@
 use Prim.Native.Nat.{ℕ, _≤_, _*_, _-_, _/_}
 use mathlib.Core.Path.{_≡_}
 use mathlib.Core.Logic.{_↔_}
-use mathlib.Core.Bool.{Bool, true, false, _||_}
+use mathlib.Core.Bool.{true, false}
 use mathlib.Core.List.{List, [], _∷_, _++_}
-use lib.Dec.{eqb}
 use lib.ListN.{length, take}
 use Rattle.trace.specs.Machine.{Machine}
 use Rattle.trace.specs.Schedule.{accepted, final, names}
-use Rattle.trace.specs.Order.{inversions}
+use Rattle.trace.specs.Order.{inversions, has}
 use Rattle.trace.specs.Chain.{Chain, Chained, replay}
-use Rattle.trace.specs.Same.{same}
+use Rattle.trace.specs.Same.{equivalent}
 use Rattle.trace.specs.Route.{route}
-
--- an actor has an entry in the schedule
-abbrev pub has : List ℕ → ℕ → Bool
-has [] a = false
-has (b ∷ p) a = eqb a b || has p a
 
 -- a chain from p to q keeps the run: it leads to q, and each schedule along it, after n of its exchanges, is accepted and ends where p ends; so q
 pub record KeepsRun (M : Machine) (s : M .State) (ks p q : List ℕ) : Type 0 where
@@ -48,6 +42,6 @@ pub record Theorems (M : Machine) (s : M .State) : Type 0 where
   pub readiness : (p more : List ℕ) (a : ℕ) → M .ready (final M s p) a ≡ true → has more a ≡ false → accepted M s (p ++ more) ≡ true
       → StaysReady M s p more a
   -- T3: two accepted schedules are the same exactly when a chain leads from the first to the second
-  pub same-chained : (p q : List ℕ) → accepted M s p ≡ true → accepted M s q ≡ true → (same M s p q ≡ true) ↔ Chained M s p q
+  pub same-chained : (p q : List ℕ) → accepted M s p ≡ true → accepted M s q ≡ true → (equivalent M s p q ≡ true) ↔ Chained M s p q
   -- T4: between two accepted schedules that are the same, the route is a shortest chain
-  pub shortest-route : (p q : List ℕ) → accepted M s p ≡ true → accepted M s q ≡ true → same M s p q ≡ true → ShortestRoute M s p q
+  pub shortest-route : (p q : List ℕ) → accepted M s p ≡ true → accepted M s q ≡ true → equivalent M s p q ≡ true → ShortestRoute M s p q

@@ -11,7 +11,7 @@ use Rattle.table.specs.declared.Action.{Action}
 use Rattle.table.specs.declared.Action.the-variants.{Set, Add, Lesser, Send, Receive, TestAny, WaitAny, Lock, Unlock, MutexTest, MutexWait}
 use Rattle.table.specs.Decode.{actionOf}
 use Rattle.trace.specs.Machine.{Name}
-use Rattle.trace.specs.Theorems.{has}
+use Rattle.trace.specs.Order.{has}
 use Rattle.model.specs.Site.{name}
 use Rattle.model.specs.Views.{posts, looks}
 use Rattle.model.specs.Step.{actionAt}

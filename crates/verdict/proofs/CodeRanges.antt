@@ -7,7 +7,7 @@ use mathlib.Core.Logic.{_⊎_, inl, inr}
 use mathlib.Core.List.{List}
 use Rattle.table.specs.declared.Action.{Action}
 use Rattle.table.specs.declared.Action.the-variants.{Set, Add, Lesser, Send, Receive, TestAny, WaitAny, Lock, Unlock, MutexTest, MutexWait}
-use Rattle.table.specs.Promise.{Accepted, InRange}
+use Rattle.table.specs.Promise.{WellFormed, InRange}
 use Rattle.trace.specs.Machine.{Name}
 use Rattle.model.specs.Site.{name}
 use Rattle.model.specs.Step.{actionAt}
@@ -33,7 +33,7 @@ neither : {code : ℕ} → Mutual code → 2 ≤ code → code ≤ 3 → ⊥
 neither (inl e) least most = omega (arith, e, least, most)
 neither (inr e) least most = omega (arith, e, least, most)
 
-module _ (table : List ℕ) (accepted : Accepted table) (x : Name) (s : Stands table x) where
+module _ (table : List ℕ) (accepted : WellFormed table) (x : Name) (s : Stands table x) where
   abbrev Own : Action → Type 0
   Own t = Each (λ k. Stands table (name (x .actor) k)) (listOf t)
 

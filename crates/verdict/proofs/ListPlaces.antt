@@ -10,7 +10,7 @@ use lib.ListN.{take}
 use lib.Seq.{take-nil}
 use borrow.Author.Tests.{le-leb}
 use Rattle.table.specs.declared.Numbers.{Numbers}
-use Rattle.trace.specs.Theorems.{has}
+use Rattle.trace.specs.Order.{has}
 use Rattle.model.specs.Views.{listed}
 use Rattle.model.specs.Pair.{anyOf}
 

@@ -6,7 +6,7 @@ use mathlib.Core.Path.{_≡_, refl, _∙_, ap₂}
 use mathlib.Core.Bool.{Bool, false, _||_}
 use mathlib.Core.List.{List, [], _∷_}
 use lib.Dec.{eqb, lit≤}
-use Rattle.trace.specs.Theorems.{has}
+use Rattle.trace.specs.Order.{has}
 use Rattle.model.specs.Site.{Port, opposite}
 use Rattle.model.specs.Views.{Post, silent, mails, joins, leaves, Look, blind, communications, mutexes}
 use Rattle.model.specs.Pair.{answers, anyOf, meets}

@@ -8,7 +8,7 @@ use Rattle.table.specs.declared.Action.{Action}
 use Rattle.table.specs.declared.Action.the-variants.{Set, Add, Lesser, Send, Receive, TestAny, WaitAny, Lock, Unlock, MutexTest, MutexWait}
 use Rattle.table.specs.declared.Numbers.{Numbers}
 use Rattle.table.specs.Format.{mutexesOf}
-use Rattle.table.specs.Promise.{Accepted, Listing, LowerPost, InRange}
+use Rattle.table.specs.Promise.{WellFormed, Listing, LowerPost, InRange}
 use Rattle.trace.specs.Machine.{Name}
 use Rattle.model.specs.Site.{name}
 use Rattle.model.specs.Views.{posts, Look, blind, communications, mutexes, looks, listed}
@@ -30,7 +30,7 @@ each-map : {P Q : ℕ → Type 0} → ((k : ℕ) → P k → Q k) → (l : List 
 each-map f [] e = tt
 each-map f (k ∷ l) e = (f k (e .0), each-map f l (e .1))
 
-module _ (table : List ℕ) (accepted : Accepted table) where
+module _ (table : List ℕ) (accepted : WellFormed table) where
   post-small : (a k : ℕ) (x : Action) → InRange table a k x → SmallPost (posts x)
   post-small a k (Set cell value) h = tt
   post-small a k (Add cell other) h = tt

@@ -9,7 +9,7 @@ use mathlib.Core.List.{List}
 use lib.Dec.{eqb}
 use lib.Bits.{bitAnd, bitOr}
 use borrow.Author.Tests.{ne-eqb}
-use Rattle.table.specs.Promise.{Accepted}
+use Rattle.table.specs.Promise.{WellFormed}
 use Rattle.trace.specs.Machine.{Name}
 use Rattle.model.specs.Views.{Post, Look, posts, looks}
 use Rattle.model.specs.Step.{actionAt}
@@ -37,7 +37,7 @@ views-meet own other p q x y sp sq sx sy =
     ∙ ap₂ _||_ (look-meets-post own x q sx sq) (looks-apart own other x y sx sy))
     ∙ gathered (competes p q) (meets own x q) (meets other y p)
 
-pub marks-meet : (table : List ℕ) → Accepted table → (x y : Name) → Stands table x → Stands table y → x .actor ≢ y .actor
+pub marks-meet : (table : List ℕ) → WellFormed table → (x y : Name) → Stands table x → Stands table y → x .actor ≢ y .actor
     → not (eqb (bitAnd (marksOf table x) (meetsOf table y)) 0) ≡ depends table x y
 unfolding marksOf meetsOf depends
 marks-meet table accepted x y sx sy apart =

@@ -11,10 +11,10 @@ use borrow.Author.Tests.{lt-ltb}
 use lib.ListN.{length, getD, take, List·getD-map}
 use lib.Seq.{getD-take}
 use Rattle.trace.specs.Machine.{Name}
-use Rattle.trace.specs.Order.{eqName, mem, before}
+use Rattle.trace.specs.Order.{eqName, mem, before, Distinct}
 use Rattle.trace.specs.Route.{place}
 use Rattle.trace.proofs.Bools.{contrary, is-false}
-use Rattle.trace.proofs.Names.{eqName-refl, eqName-true, mem-head, mem-tail, mem-cases, Distinct}
+use Rattle.trace.proofs.Names.{eqName-refl, eqName-true, mem-head, mem-tail, mem-cases}
 use Rattle.trace.proofs.Places.{before-place}
 use Rattle.engine.specs.State.{nameOf}
 use Rattle.verdict.specs.Names.{namesIn}

@@ -12,10 +12,9 @@ use borrow.Author.Tests.{eqb-true, eqb-false}
 use lib.Dec.{eqb}
 use lib.ListN.{length, getD, set, replicate, length-set, length-replicate, getD-replicate}
 use lib.Seq.{getD-set-same, getD-set-other}
-use Rattle.trace.specs.Order.{mem}
+use Rattle.trace.specs.Order.{mem, Distinct}
 use Rattle.trace.specs.Route.{place}
 use Rattle.trace.proofs.Bools.{which, is-false}
-use Rattle.trace.proofs.Names.{Distinct}
 use Rattle.engine.specs.State.{nameOf}
 use Rattle.verdict.specs.Names.{namesIn}
 use Rattle.verdict.specs.SameParts.{lastIn, Indexed}

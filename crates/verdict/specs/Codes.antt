@@ -10,7 +10,7 @@ use Rattle.table.specs.declared.Action.{Action}
 use Rattle.table.specs.declared.Action.the-variants.{Set, Add, Lesser, Send, Receive, TestAny, WaitAny, Lock, Unlock, MutexTest, MutexWait}
 use Rattle.table.specs.Decode.{actionOf}
 use Rattle.trace.specs.Machine.{Name}
-use Rattle.trace.specs.Theorems.{has}
+use Rattle.trace.specs.Order.{has}
 use Rattle.model.specs.Views.{listed}
 use Rattle.model.specs.Step.{actionAt}
 use Rattle.model.specs.Pair.{anyOf}

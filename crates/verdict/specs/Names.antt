@@ -6,11 +6,10 @@ use mathlib.Core.Bool.{true, false}
 use mathlib.Core.List.{List, map}
 use lib.ListN.{length, getD, take}
 use Rattle.table.specs.Format.{actorsOf, countOf}
-use Rattle.table.specs.Promise.{Accepted}
+use Rattle.table.specs.Promise.{WellFormed}
 use Rattle.trace.specs.Machine.{Name}
-use Rattle.trace.specs.Order.{before, within}
+use Rattle.trace.specs.Order.{before, within, Distinct}
 use Rattle.trace.specs.Route.{routeFrom}
-use Rattle.trace.proofs.Names.{Distinct}
 use Rattle.engine.specs.State.{nameOf}
 
 -- the first m bytes, as step names
@@ -24,7 +23,7 @@ Stands table x = (x .actor < actorsOf table) × (x .position < countOf table (x 
 -- the names of two schedules' steps, m of each: those of the first stand in the table, no schedule runs a step twice, and steps of one actor
 -- come in one order in both
 pub record Compared (table first second : List ℕ) (m : ℕ) : Type 0 where
-  pub accepted : Accepted table
+  pub accepted : WellFormed table
   pub first-long : length first ≡ 256
   pub second-long : length second ≡ 256
   pub most : m ≤ 256

@@ -5,7 +5,7 @@ ghost use Prim.Native.Nat.{_<_, _≤_};
 ghost use mathlib.Core.Bool.{cond};
 ghost use lib.Dec.{leb};
 ghost use lib.Bits.{bitOr};
-ghost use Rattle.table.specs.Promise.{Accepted};
+ghost use Rattle.table.specs.Promise.{WellFormed};
 ghost use Rattle.model.specs.Site.{name};
 ghost use Rattle.model.specs.Views.{posts, looks, listed as listedIn};
 ghost use Rattle.model.specs.Pair.{postAt};
@@ -37,7 +37,7 @@ pub struct Footprint {
 
 // The marks of a step of the table, and the marks of other actors' steps that it must not change places with.
 pub fn of_step(table: &[u8], a: usize, k: usize) -> Footprint
-    requires { ⌜ Accepted (now table) × Stands (now table) (name a k) ⌝ }
+    requires { ⌜ WellFormed (now table) × Stands (now table) (name a k) ⌝ }
     ensures { λ r. ⌜ (r .marks ≡ marksOf (now (table .entry)) (name a k)) × (r .meets ≡ meetsOf (now (table .entry)) (name a k)) ⌝ }
 {
     let x = table::within::action(table, a, k);
@@ -71,7 +71,7 @@ fn post(x: Action) -> Footprint
 
 // The footprint of what an action of an actor looks at.
 fn look(table: &[u8], a: usize, x: Action) -> Footprint
-    requires { ⌜ Accepted (now table) × LookStands (now table) a (looks x) ⌝ }
+    requires { ⌜ WellFormed (now table) × LookStands (now table) a (looks x) ⌝ }
     ensures { λ r. ⌜ (r .marks ≡ lookMarks (postAt (now (table .entry)) a) (looks x)) × (r .meets ≡ lookMeets (postAt (now (table .entry)) a) (looks x)) ⌝ }
 {
     match x {
@@ -97,7 +97,7 @@ fn look(table: &[u8], a: usize, x: Action) -> Footprint
 
 // The footprint of a list of communications of an actor.
 fn communications(table: &[u8], a: usize, list: Numbers) -> Footprint
-    requires { ⌜ Accepted (now table) × Each (λ k. Stands (now table) (name a k)) (listedIn list) ⌝ }
+    requires { ⌜ WellFormed (now table) × Each (λ k. Stands (now table) (name a k)) (listedIn list) ⌝ }
     ensures { λ r. ⌜ (r .marks ≡ allOf (λ k. listedMarks (postAt (now (table .entry)) a k)) (listedIn list))
         × (r .meets ≡ allOf (λ k. listedMeets (postAt (now (table .entry)) a k)) (listedIn list)) ⌝ }
 {
@@ -124,7 +124,7 @@ fn mutexes(list: Numbers) -> Footprint
 
 // One place of a list of `count` numbers: communication k, if the list has the place.
 fn communication(table: &[u8], a: usize, count: usize, place: usize, k: usize) -> Footprint
-    requires { ⌜ Accepted (now table) × (place ≤ count → Stands (now table) (name a k)) ⌝ }
+    requires { ⌜ WellFormed (now table) × (place ≤ count → Stands (now table) (name a k)) ⌝ }
     ensures { λ r. ⌜ (r .marks ≡ cond (leb place count) (listedMarks (postAt (now (table .entry)) a k)) 0)
         × (r .meets ≡ cond (leb place count) (listedMeets (postAt (now (table .entry)) a k)) 0) ⌝ }
 {

@@ -4,8 +4,8 @@ ghost use Prim.Native.Nat.{_<_, _≤_};
 ghost use mathlib.Core.Bool.{_&&_};
 ghost use lib.Dec.{eqb, leb};
 ghost use Rattle.table.specs.Decode.{actionOf};
-ghost use Rattle.table.specs.Promise.{Accepted};
-ghost use Rattle.trace.specs.Theorems.{has};
+ghost use Rattle.table.specs.Promise.{WellFormed};
+ghost use Rattle.trace.specs.Order.{has};
 ghost use Rattle.model.specs.Site.{name};
 ghost use Rattle.model.specs.Views.{listed};
 ghost use Rattle.model.specs.Pair.{anyOf, depends};
@@ -155,7 +155,7 @@ const CODES: [u8; 121] = [
 
 // Whether two steps of the table, actor·action each, are dependent.
 pub fn dependent(table: &[u8], a: usize, k: usize, b: usize, l: usize) -> bool
-    requires { ⌜ Accepted (now table) × Stands (now table) (name a k) × Stands (now table) (name b l) ⌝ }
+    requires { ⌜ WellFormed (now table) × Stands (now table) (name a k) × Stands (now table) (name b l) ⌝ }
     ensures { λ r. ⌜ r ≡ depends (now (table .entry)) (name a k) (name b l) ⌝ }
 {
     if a == b {
@@ -182,7 +182,7 @@ fn code(i: usize, j: usize) -> u8
 
 // What a code compares of x, of actor a, and y.
 fn compare(code: u8, table: &[u8], a: usize, x: Action, y: Action) -> bool
-    requires { ⌜ Accepted (now table) × (2 ≤ code → code ≤ 3 → Each (λ k. Stands (now table) (name a k)) (listOf x)) ⌝ }
+    requires { ⌜ WellFormed (now table) × (2 ≤ code → code ≤ 3 → Each (λ k. Stands (now table) (name a k)) (listOf x)) ⌝ }
     ensures { λ r. ⌜ r ≡ comparison code (actionOf (now (table .entry)) a) x y ⌝ }
 {
     match code {
@@ -197,7 +197,7 @@ fn compare(code: u8, table: &[u8], a: usize, x: Action, y: Action) -> bool
 
 // A list of actor a's actions names one of this kind on mailbox m.
 fn lists_mail(table: &[u8], a: usize, list: Numbers, kind: usize, m: usize) -> bool
-    requires { ⌜ Accepted (now table) × Each (λ k. Stands (now table) (name a k)) (listed list) ⌝ }
+    requires { ⌜ WellFormed (now table) × Each (λ k. Stands (now table) (name a k)) (listed list) ⌝ }
     ensures { λ r. ⌜ r ≡ anyOf (λ k. isOn kind m (actionOf (now (table .entry)) a k)) (listed list) ⌝ }
 {
     if mail_at(table, a, list.count, 1, list.n0, kind, m) {
@@ -222,7 +222,7 @@ fn mail_at(
     wanted: usize,
     m: usize,
 ) -> bool
-    requires { ⌜ Accepted (now table) × (place ≤ count → Stands (now table) (name a k)) ⌝ }
+    requires { ⌜ WellFormed (now table) × (place ≤ count → Stands (now table) (name a k)) ⌝ }
     ensures { λ r. ⌜ r ≡ leb place count && isOn wanted m (actionOf (now (table .entry)) a k) ⌝ }
 {
     if count < place {

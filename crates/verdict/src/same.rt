@@ -3,7 +3,7 @@ ghost use mathlib.Core.Path.{_≡_};
 ghost use mathlib.Core.Bool.{not, _&&_};
 ghost use Prim.Native.Nat.{ℕ, _<_, _≤_};
 ghost use lib.ListN.{length, getD, replicate};
-ghost use Rattle.table.specs.Promise.{Accepted};
+ghost use Rattle.table.specs.Promise.{WellFormed};
 ghost use Rattle.trace.specs.Order.{within};
 ghost use Rattle.trace.specs.Same.{reorders};
 ghost use Rattle.model.specs.Pair.{depends};
@@ -62,7 +62,7 @@ fn located(first: &[u8; 256], index: &[u16; 256], m: usize, places: &mut [u16; 2
 // Whether no two dependent steps of the first list have places in the opposite order. Pairs are compared by rising later step, then rising
 // earlier step, up to the first such pair.
 fn ordered(table: &[u8], first: &[u8; 256], places: &[u16; 256], m: usize) -> bool
-    requires { ⌜ Accepted (now table) × (length (now first) ≡ 256) × (length (now places) ≡ 256) × (m ≤ 256)
+    requires { ⌜ WellFormed (now table) × (length (now first) ≡ 256) × (length (now places) ≡ 256) × (m ≤ 256)
         × ((i : ℕ) → i < m → Stands (now table) (nameOf (getD (now first) i 0))) ⌝ }
     ensures { λ r. ⌜ r ≡ not (crossed (now (table .entry)) (now (first .entry)) (now (places .entry)) m) ⌝ }
 {

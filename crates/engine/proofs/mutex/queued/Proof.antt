@@ -6,7 +6,7 @@ use mathlib.Core.List.{List}
 use native.Mathlib.Omega.{arith}
 use borrow.Author.Needs.{needs}
 use lib.ListN.{take, drop}
-use Rattle.trace.specs.Theorems.{has}
+use Rattle.trace.specs.Order.{has}
 use Rattle.engine.proofs.MutexScan.{rest, rest-begin, rest-end, has-found, has-passed}
 use Rattle.engine.proofs.mutex.queued.Statement.{statement}
 use Rattle.engine.proofs.mutex.queued.Tie as tie

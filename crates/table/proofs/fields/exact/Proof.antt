@@ -11,7 +11,7 @@ use Rattle.table.specs.Outcome.{Outcome, demand, _⨾_}
 use Rattle.table.specs.Format.{mutexesOf, placeOf, pAt, qAt, zAt}
 use Rattle.table.specs.Kinds.{formOf}
 use Rattle.table.specs.Read.{fieldsOf, blanks}
-use Rattle.table.specs.Parts.{pairOf, loneOf, allBelow, listOf}
+use Rattle.table.specs.Parts.{twoFieldsOf, loneOf, allBelow, listOf}
 use Rattle.table.proofs.Checks.{then-then}
 use Rattle.table.proofs.Forms.{one-kind, two-kinds, no-kind}
 use Rattle.table.proofs.fields.exact.Statement.{statement}
@@ -75,7 +75,7 @@ returns-3 : tie.Need-returns-3
 returns-3 c =
     let a = c .before .before .before .before .before .before .args in
     c .pair2 .ensures
-    ∙ ap (pairOf (a .t .now) (placeOf (a .first) (a .k))) (c .before .before .before .before .before .before .pre .1)
+    ∙ ap (twoFieldsOf (a .t .now) (placeOf (a .first) (a .k))) (c .before .before .before .before .before .before .pre .1)
     ∙ sym (two-kinds (a .t .now) (a .first) (a .k) 3 (c .before .before .if1 .left) (c .before .if2 .taken) (lit< tt) refl)
 
 returns-4 : tie.Need-returns-4

@@ -7,13 +7,13 @@ use native.Mathlib.Omega.{arith}
 use lib.ListN.{length}
 use Rattle.table.specs.Format.{actorsOf, offsetOf, countOf, placeOf}
 use Rattle.table.specs.Decode.{decode}
-use Rattle.table.specs.Promise.{Accepted}
+use Rattle.table.specs.Promise.{WellFormed}
 use borrow.Author.Needs.{needs}
 use Rattle.table.proofs.within.action.Statement.{statement}
 use Rattle.table.proofs.within.action.Tie as tie
 
 -- the last of the eight bytes lies within the file
-within : (b : List ℕ) (actor k first : ℕ) → Accepted b → actor < actorsOf b → k < countOf b actor → first ≡ offsetOf b actor
+within : (b : List ℕ) (actor k first : ℕ) → WellFormed b → actor < actorsOf b → k < countOf b actor → first ≡ offsetOf b actor
     → first + 8 * k + 8 ≤ length b
 within b actor k first table in-actors in-actions e = omega (arith, table .inside actor in-actors, in-actions, e)
 

@@ -8,7 +8,7 @@ use mathlib.Core.List.{List}
 use lib.Dec.{eqb}
 use Rattle.table.specs.declared.Action.{Action}
 use Rattle.table.specs.Decode.{actionOf}
-use Rattle.trace.specs.Theorems.{has}
+use Rattle.trace.specs.Order.{has}
 use Rattle.model.specs.Site.{name}
 use Rattle.model.specs.Pair.{anyOf}
 use Rattle.verdict.specs.Codes.{isOn, comparison}
