@@ -18,12 +18,13 @@ use Rattle.model.specs.Schedule.{machine, endState, firstNumbers, checkSchedule
 use Rattle.model.specs.Calls.{readyChecks}
 use Rattle.model.specs.Listing.{line, endText, refusedText, stepLines, runLines, linesOf, listingOf, tableRead, scheduleRead}
 use Rattle.model.proofs.Beginnings.{beginnings-decide}
-use Rattle.engine.specs.State.{nameOf}
-use Rattle.engine.specs.PlayParts.{Ended}
-use Rattle.engine.specs.ReadyParts.{endingAs, readinessOf, Answerable}
-use Rattle.engine.specs.ReportParts.{Wrote}
-use Rattle.engine.specs.declared.play.Played.{Played}
-use Rattle.engine.specs.declared.ready.Readiness.{Readiness}
+use Rattle.names.specs.InByte.{nameOf}
+use Rattle.play.specs.PlayParts.{Ended}
+use Rattle.readiness.specs.Answer.{endingAs, readinessOf}
+use Rattle.readiness.specs.ReadyParts.{Answerable}
+use Rattle.writing.specs.Written.{Wrote}
+use Rattle.play.specs.declared.Played.{Played}
+use Rattle.readiness.specs.declared.Readiness.{Readiness}
 use Rattle.listing.specs.declared.Listing.{Listing}
 use Rattle.listing.specs.Laid.{Laid, firstSteps}
 

@@ -9,9 +9,9 @@ use lib.ListN.{length, getD, take}
 use lib.Seq.{take-suc}
 use Rattle.trace.specs.Machine.{Name}
 use Rattle.model.specs.Listing.{line, stepText, stepLines}
-use Rattle.engine.specs.State.{nameOf}
-use Rattle.engine.specs.ReportParts.{Wrote}
-use Rattle.engine.proofs.ReportWritten.{rest, joined, written-length, wrote-then}
+use Rattle.names.specs.InByte.{nameOf}
+use Rattle.writing.specs.Written.{Wrote}
+use Rattle.writing.proofs.Written.{rest, joined, written-length, wrote-then}
 use Rattle.listing.specs.Laid.{firstSteps}
 use Rattle.listing.proofs.Writing.{wrote-at, wrote-room}
 

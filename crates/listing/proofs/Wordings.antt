@@ -7,9 +7,9 @@ use native.Mathlib.Omega.{arith}
 use lib.ListN.{length, set, length-append}
 use Rattle.model.specs.Listing.{digit, decimal, line, space, refusedText, stepText}
 use Rattle.model.proofs.Decimal.{decimal-small, decimal-more, decimal-most}
-use Rattle.engine.specs.State.{nameOf}
-use Rattle.engine.specs.ReportParts.{Wrote}
-use Rattle.engine.proofs.ReportWritten.{rest, joined, wrote-then, wrote-stores}
+use Rattle.names.specs.InByte.{nameOf}
+use Rattle.writing.specs.Written.{Wrote}
+use Rattle.writing.proofs.Written.{rest, joined, wrote-then, wrote-stores}
 use Rattle.listing.proofs.Writing.{wrote-store}
 
 -- ---- a number

@@ -9,8 +9,8 @@ use native.Mathlib.Omega.{arith}
 use borrow.Rule.Slice.PartMut.{set-mid-at}
 use lib.ListN.{length, getD, set, take, length-append}
 use lib.Seq.{take-suc, take-all, length-take-le}
-use Rattle.engine.specs.ReportParts.{Written, Wrote}
-use Rattle.engine.proofs.ReportWritten.{rest, joined, rest-room, written-length, wrote-then, wrote-stores}
+use Rattle.writing.specs.Written.{Written, Wrote}
+use Rattle.writing.proofs.Written.{rest, joined, rest-room, written-length, wrote-then, wrote-stores}
 
 -- a store just after what was written
 pub wrote-store : (e s b : List ℕ) (at x : ℕ) → length s < length e → Wrote e s b at → Wrote e (s ++ (x ∷ [])) (set b at x) (at + 1)

@@ -5,7 +5,7 @@ use mathlib.Core.Path.{_≡_}
 use mathlib.Core.List.{List, _++_, map}
 use lib.ListN.{length, take, replicate}
 use Rattle.model.specs.Listing.{stepLines}
-use Rattle.engine.specs.State.{nameOf}
+use Rattle.names.specs.InByte.{nameOf}
 use Rattle.listing.specs.declared.Listing.{Listing}
 
 pub record Laid (text : List ℕ) (r : Listing) : Type 0 where

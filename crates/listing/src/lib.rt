@@ -4,11 +4,9 @@ ghost use mathlib.Core.List.{List};
 ghost use Prim.Native.Nat.{ℕ, _≤_};
 ghost use lib.ListN.{length, take};
 ghost use Rattle.model.specs.Listing.{listingOf, tableRead, scheduleRead};
-ghost use Rattle.engine.specs.ReportParts.{Wrote};
+ghost use Rattle.writing.specs.Written.{Wrote};
 ghost use Rattle.listing.specs.Laid.{Laid};
-use engine::play;
-use engine::play::Halt;
-use engine::ready;
+use play::Halt;
 use table::Reading;
 
 mod lines;
@@ -64,7 +62,7 @@ fn write(table: &[u8], schedule: &[u8], out: &mut [u8]) -> usize
     match halt {
         Halt::End => {
             let actors = played.actors;
-            let readiness = ready::answer(table, actors, &comms, &entries, &lens);
+            let readiness = readiness::answer(table, actors, &comms, &entries, &lens);
             let ending = readiness.ending;
             lines::run(&names, schedule.len(), ending, out)
         }

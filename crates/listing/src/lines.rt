@@ -4,12 +4,12 @@ ghost use mathlib.Core.List.{_++_};
 ghost use Prim.Native.Nat.{_*_, _≤_, _/_, _%_};
 ghost use lib.ListN.{length};
 ghost use Rattle.model.specs.Listing.{line, endText, refusedText, stepText};
-ghost use Rattle.engine.specs.State.{nameOf};
-ghost use Rattle.engine.specs.ReadyParts.{endingAs};
-ghost use Rattle.engine.specs.ReportParts.{Wrote};
+ghost use Rattle.names.specs.InByte.{nameOf};
+ghost use Rattle.readiness.specs.Answer.{endingAs};
+ghost use Rattle.writing.specs.Written.{Wrote};
 ghost use Rattle.listing.specs.Laid.{firstSteps};
 use crate::text;
-use engine::ready::Ending;
+use readiness::Ending;
 
 // The only line of a refused run.
 pub fn refused(number: u32, position: u32, buf: &mut [u8]) -> usize

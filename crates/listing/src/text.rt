@@ -4,7 +4,7 @@ ghost use mathlib.Core.List.{[], _∷_, _++_};
 ghost use Prim.Native.Nat.{_+_, _<_, _≤_};
 ghost use lib.ListN.{length};
 ghost use Rattle.model.specs.Listing.{decimal as decimalOf, digit as digitOf, line};
-ghost use Rattle.engine.specs.ReportParts.{Wrote};
+ghost use Rattle.writing.specs.Written.{Wrote};
 
 pub fn put(text: &[u8], buf: &mut [u8]) -> usize
     requires { ⌜ length (now text) ≤ length (now buf) ⌝ }

@@ -23,11 +23,11 @@ use Rattle.model.specs.Calls.{Result, gives, refuses, answer, lentAfter, runChe
 use Rattle.model.proofs.Checks.{checks-taken}
 use Rattle.model.proofs.ReportBoundSite.{bounds-end}
 use Rattle.model.proofs.ReportBound.{reports-fit}
-use Rattle.engine.specs.State.{recordsOf, siteOf}
-use Rattle.engine.specs.PlayParts.{Ended}
-use Rattle.engine.specs.ReadyParts.{Answerable}
-use Rattle.engine.specs.ReportParts.{Reportable}
-use Rattle.engine.specs.declared.play.Played.{Played}
+use Rattle.state.specs.State.{recordsOf, siteOf}
+use Rattle.play.specs.PlayParts.{Ended}
+use Rattle.readiness.specs.ReadyParts.{Answerable}
+use Rattle.report.specs.ReportParts.{Reportable}
+use Rattle.play.specs.declared.Played.{Played}
 
 -- a refused check decides
 pub then-refused : (o after : Outcome) (n p : ℕ) → o ≡ refused n p → (o ⨾ after) ≡ refused n p

@@ -30,7 +30,7 @@ use Rattle.model.proofs.Laws.{laws}
 use Rattle.model.proofs.Invariant.{inv-initial}
 use Rattle.model.proofs.Checks.{steps-in-table}
 use Rattle.model.proofs.Demand3.{site-theorems}
-use Rattle.engine.specs.State.{nameOf}
+use Rattle.names.specs.InByte.{nameOf}
 use Rattle.verdict.specs.Names.{namesIn, Stands, Compared, Routable}
 use Rattle.order.specs.Traces.{Kept}
 use Rattle.order.proofs.OwnOrder.{one-order}

@@ -6,7 +6,7 @@ use Rattle.table.specs.Outcome.{numberOf, positionOf}
 use Rattle.table.specs.Answer.{outcome}
 use Rattle.model.specs.Ready.{ReadyAnswer}
 use Rattle.model.specs.Calls.{Result, gives, refuses, PairVerdict, independent, dependent, SameVerdict, same as alike, different}
-use Rattle.engine.specs.ReadyParts.{readinessOf}
+use Rattle.readiness.specs.Answer.{readinessOf}
 use Rattle.order.specs.declared.RunAnswer.{RunAnswer}
 use Rattle.order.specs.declared.RunAnswer.the-variants as run
 use Rattle.order.specs.declared.ReadyAnswer.{ReadyAnswer as Ready}

@@ -11,9 +11,9 @@ use Rattle.trace.specs.Schedule.{names}
 use Rattle.model.specs.Site.{initial}
 use Rattle.model.specs.Schedule.{machine, RefusalNumbers, firstNumbers, secondNumbers, checkSchedule}
 use Rattle.model.specs.Calls.{sameOf}
-use Rattle.engine.specs.PlayParts.{haltOf}
-use Rattle.engine.specs.declared.play.Halt.{Halt}
-use Rattle.engine.specs.declared.play.Halt.the-variants.{End}
+use Rattle.play.specs.PlayParts.{haltOf}
+use Rattle.play.specs.declared.Halt.{Halt}
+use Rattle.play.specs.declared.Halt.the-variants.{End}
 use Rattle.verdict.specs.Names.{namesIn}
 use Rattle.order.specs.declared.SameAnswer.{SameAnswer}
 use Rattle.order.specs.declared.SameAnswer.the-variants as same

@@ -5,11 +5,8 @@ ghost use Rattle.model.specs.Calls.{inTable, runOf, readyOf, pairOf, sameOf};
 ghost use Rattle.model.specs.Route.{mostExchanges, RightRoute};
 ghost use Rattle.model.specs.Site.{name};
 ghost use Rattle.order.specs.Answers.{runResult, readyResult, pairResult, sameResult, routeResult};
-use engine::play;
-use engine::play::Halt;
-use engine::ready;
-use engine::ready::Readiness;
-use engine::report;
+use play::Halt;
+use readiness::Readiness;
 use table::Reading;
 use verdict::pair;
 use verdict::route;
@@ -118,7 +115,7 @@ pub fn ready(table: &[u8], schedule: &[u8]) -> ReadyAnswer
     match halt {
         Halt::End => {
             let actors = played.actors;
-            ReadyAnswer::Now(ready::answer(table, actors, &comms, &entries, &lens))
+            ReadyAnswer::Now(readiness::answer(table, actors, &comms, &entries, &lens))
         }
         Halt::Absent(i) => ReadyAnswer::Absent(i),
         Halt::Finished(i) => ReadyAnswer::Finished(i),

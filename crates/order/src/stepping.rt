@@ -4,8 +4,7 @@ ghost use lib.ListN.{length};
 ghost use Rattle.table.specs.Promise.{WellFormed};
 ghost use Rattle.order.specs.Traces.{Traced, Following, Judged, ComparedRight};
 use crate::SameAnswer;
-use engine::play;
-use engine::play::Halt;
+use play::Halt;
 use table::Reading;
 use verdict::same;
 

@@ -5,14 +5,14 @@ ghost use Rattle.table.specs.Read.{readOf};
 ghost use Rattle.order_ffi.specs.Fields.{runFields, readyFields, endingNumber, pairFields, sameFields, routeFields, RightFields};
 ghost use Rattle.model.specs.Site.{name};
 ghost use Rattle.model.specs.Calls.{gives, refuses, runOf, readyOf, pairOf, sameOf};
-ghost use Rattle.engine.specs.ReadyParts.{readinessOf, endingAs};
-use engine::ready::Ending;
-use engine::ready::Readiness;
+ghost use Rattle.readiness.specs.Answer.{readinessOf, endingAs};
 use order::PairAnswer;
 use order::ReadyAnswer;
 use order::RouteAnswer;
 use order::RunAnswer;
 use order::SameAnswer;
+use readiness::Ending;
+use readiness::Readiness;
 
 // The refusal's number and position; 0 and 0 where the table is accepted.
 #[repr(C)]

@@ -6,7 +6,7 @@ ghost use Rattle.table.specs.Read.{readOf};
 ghost use Rattle.table.specs.Promise.{WellFormed};
 
 pub mod access;
-mod bytes;
+pub mod bytes;
 mod entries;
 mod fields;
 pub mod within;

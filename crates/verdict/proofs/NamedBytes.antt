@@ -16,7 +16,7 @@ use Rattle.trace.specs.Route.{place}
 use Rattle.trace.proofs.Bools.{contrary, is-false}
 use Rattle.trace.proofs.Names.{eqName-refl, eqName-true, mem-head, mem-tail, mem-cases}
 use Rattle.trace.proofs.Places.{before-place}
-use Rattle.engine.specs.State.{nameOf}
+use Rattle.names.specs.InByte.{nameOf}
 use Rattle.verdict.specs.Names.{namesIn}
 
 -- two bytes have one name only where they are equal

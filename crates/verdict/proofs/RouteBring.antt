@@ -12,8 +12,8 @@ use lib.Seq.{drop-cons, drop-drop, drop-set-lt, append-snoc}
 use Rattle.trace.specs.Machine.{Name}
 use Rattle.trace.specs.Order.{eqName, mem}
 use Rattle.trace.specs.Route.{place, remove}
-use Rattle.engine.specs.State.{nameOf}
-use Rattle.engine.proofs.MutexScan.{stored}
+use Rattle.names.specs.InByte.{nameOf}
+use Rattle.writing.proofs.Stored.{stored}
 use Rattle.verdict.specs.RouteParts.{namesFrom, Bringable, Brought}
 use Rattle.verdict.proofs.RouteNames.{name-same, name-other}
 

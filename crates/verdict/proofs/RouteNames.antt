@@ -13,7 +13,7 @@ use Rattle.trace.specs.Order.{eqName, mem}
 use Rattle.trace.specs.Route.{place, remove}
 use Rattle.trace.proofs.Bools.{which, is-false}
 use Rattle.trace.proofs.Names.{eqName-refl, eqName-true}
-use Rattle.engine.specs.State.{nameOf}
+use Rattle.names.specs.InByte.{nameOf}
 
 -- ---- a name stands in one byte
 

@@ -14,9 +14,9 @@ use Rattle.trace.specs.Order.{mem}
 use Rattle.trace.specs.Route.{place, remove, pull, routeFrom}
 use Rattle.trace.proofs.Names.{within-mem}
 use Rattle.trace.proofs.SameNames.{SameNames, same-head, same-tail}
-use Rattle.engine.specs.State.{nameOf}
-use Rattle.engine.specs.ReportParts.{Wrote}
-use Rattle.engine.proofs.ReportWritten.{rest, joined, rest-room, written-length, wrote-then}
+use Rattle.names.specs.InByte.{nameOf}
+use Rattle.writing.specs.Written.{Wrote}
+use Rattle.writing.proofs.Written.{rest, joined, rest-room, written-length, wrote-then}
 use Rattle.verdict.specs.Names.{namesIn, Routable}
 use Rattle.verdict.specs.RouteParts.{routeIn, namesFrom, Bringable, Brought}
 use Rattle.verdict.proofs.RouteNames.{place-below, mem-front, place-front, remove-front}

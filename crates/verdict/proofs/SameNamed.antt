@@ -13,7 +13,7 @@ use Rattle.trace.specs.Order.{mem, within}
 use Rattle.trace.specs.Route.{place}
 use Rattle.trace.proofs.Bools.{which, contrary, is-false}
 use Rattle.trace.proofs.Names.{within-mem, mem-within}
-use Rattle.engine.specs.State.{nameOf}
+use Rattle.names.specs.InByte.{nameOf}
 use Rattle.verdict.specs.Names.{namesIn, Compared}
 use Rattle.verdict.specs.SameParts.{someBelow, lastIn, absent, Indexed}
 use Rattle.verdict.proofs.NamedBytes.{named-in, in-named}

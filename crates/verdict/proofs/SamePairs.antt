@@ -18,7 +18,7 @@ use Rattle.trace.specs.Route.{place}
 use Rattle.trace.proofs.Bools.{which}
 use Rattle.trace.proofs.Places.{before-place, opposed, opposed-reorders, none-opposed}
 use Rattle.model.specs.Pair.{depends}
-use Rattle.engine.specs.State.{nameOf}
+use Rattle.names.specs.InByte.{nameOf}
 use Rattle.verdict.specs.Names.{namesIn, Compared}
 use Rattle.verdict.specs.Marks.{marksOf, meetsOf}
 use Rattle.verdict.specs.SameParts.{someBelow, crossesAt, crossed}

@@ -15,7 +15,7 @@ use lib.Seq.{getD-set-same, getD-set-other}
 use Rattle.trace.specs.Order.{mem, Distinct}
 use Rattle.trace.specs.Route.{place}
 use Rattle.trace.proofs.Bools.{which, is-false}
-use Rattle.engine.specs.State.{nameOf}
+use Rattle.names.specs.InByte.{nameOf}
 use Rattle.verdict.specs.Names.{namesIn}
 use Rattle.verdict.specs.SameParts.{lastIn, Indexed}
 use Rattle.verdict.proofs.NamedBytes.{named-once, named-in, in-named, place-named}

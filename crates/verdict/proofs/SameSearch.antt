@@ -11,7 +11,7 @@ use lib.Bits.{bitAnd}
 use lib.Dec.{eqb, ltb}
 use lib.ListN.{length, getD, set, replicate, length-set, length-replicate}
 use lib.Seq.{getD-set-same, getD-set-other}
-use Rattle.engine.specs.State.{nameOf}
+use Rattle.names.specs.InByte.{nameOf}
 use Rattle.verdict.specs.Marks.{marksOf, meetsOf}
 use Rattle.verdict.specs.SameParts.{someBelow, crosses, crossesAt, crossed}
 use Rattle.verdict.proofs.SameBelow.{some-below, none-below, below-alike}

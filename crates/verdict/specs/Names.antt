@@ -10,7 +10,7 @@ use Rattle.table.specs.Promise.{WellFormed}
 use Rattle.trace.specs.Machine.{Name}
 use Rattle.trace.specs.Order.{before, within, Distinct}
 use Rattle.trace.specs.Route.{routeFrom}
-use Rattle.engine.specs.State.{nameOf}
+use Rattle.names.specs.InByte.{nameOf}
 
 -- the first m bytes, as step names
 abbrev pub namesIn : ℕ → List ℕ → List Name

@@ -8,7 +8,7 @@ use lib.ListN.{length, drop}
 use Rattle.trace.specs.Machine.{Name}
 use Rattle.trace.specs.Order.{mem}
 use Rattle.trace.specs.Route.{place, remove, routeFrom}
-use Rattle.engine.specs.State.{nameOf}
+use Rattle.names.specs.InByte.{nameOf}
 use Rattle.verdict.specs.Names.{namesIn}
 
 -- the route between the first m names of two lists

@@ -7,7 +7,7 @@ use mathlib.Core.List.{List}
 use lib.Bits.{bitAnd}
 use lib.Dec.{eqb, ltb}
 use lib.ListN.{length, getD}
-use Rattle.engine.specs.State.{nameOf}
+use Rattle.names.specs.InByte.{nameOf}
 use Rattle.verdict.specs.Marks.{marksOf, meetsOf}
 
 -- some number below n passes the test

@@ -5,7 +5,7 @@ ghost use mathlib.Core.List.{_++_};
 ghost use Prim.Native.Nat.{_+_, _≤_};
 ghost use lib.ListN.{length, drop};
 ghost use Rattle.trace.specs.Route.{pull};
-ghost use Rattle.engine.specs.ReportParts.{Wrote};
+ghost use Rattle.writing.specs.Written.{Wrote};
 ghost use Rattle.verdict.specs.Names.{Routable};
 ghost use Rattle.verdict.specs.RouteParts.{routeIn, Bringable, Brought};
 

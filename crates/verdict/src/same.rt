@@ -7,7 +7,7 @@ ghost use Rattle.table.specs.Promise.{WellFormed};
 ghost use Rattle.trace.specs.Order.{within};
 ghost use Rattle.trace.specs.Same.{reorders};
 ghost use Rattle.model.specs.Pair.{depends};
-ghost use Rattle.engine.specs.State.{nameOf};
+ghost use Rattle.names.specs.InByte.{nameOf};
 ghost use Rattle.verdict.specs.Names.{namesIn, Stands, Compared};
 ghost use Rattle.verdict.specs.SameParts.{someBelow, Indexed, Located, crosses, crossed};
 use crate::footprint;

@@ -7,7 +7,7 @@ use Rattle.table.specs.Read.{readOf}
 use Rattle.table.specs.Answer.{outcome}
 use Rattle.table.proofs.Readings.{refusing}
 use Rattle.model.specs.Schedule.{firstNumbers, checkSchedule}
-use Rattle.engine.specs.PlayParts.{haltOf}
+use Rattle.play.specs.PlayParts.{haltOf}
 use Rattle.order.proofs.Outcomes.{then-refused, then-accepted, run-refused, run-given, small-checks, run-checks, reportable, report-small}
 use borrow.Author.Needs.{needs}
 use Rattle.order.proofs.run.Statement.{statement}

@@ -3,8 +3,8 @@ use mathlib.Core.List.{List}
 use native.Mathlib.Omega.{arith}
 use borrow.Author.Needs.{needs}
 use Rattle.model.specs.Listing.{line, endText}
-use Rattle.engine.specs.ReadyParts.{endingAs}
-use Rattle.engine.proofs.ReportWritten.{wrote-then}
+use Rattle.readiness.specs.Answer.{endingAs}
+use Rattle.writing.proofs.Written.{wrote-then}
 use Rattle.listing.specs.Laid.{firstSteps}
 use Rattle.listing.proofs.lines.run.Statement.{statement}
 use Rattle.listing.proofs.lines.run.Tie as tie

@@ -1,5 +1,5 @@
 -- `listing::text::labelled` meets its contract: the label, then the number. Assumes nothing.
-use Rattle.engine.proofs.ReportWritten.{wrote-then}
+use Rattle.writing.proofs.Written.{wrote-then}
 use Rattle.listing.proofs.Writing.{wrote-at, wrote-room}
 use Rattle.model.specs.Listing.{decimal}
 use borrow.Author.Needs.{needs}

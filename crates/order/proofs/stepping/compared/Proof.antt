@@ -6,7 +6,7 @@ use Rattle.table.specs.Read.{readOf}
 use Rattle.table.specs.Answer.{outcome}
 use Rattle.table.proofs.Readings.{refusing}
 use Rattle.model.specs.Schedule.{firstNumbers}
-use Rattle.engine.specs.PlayParts.{haltOf}
+use Rattle.play.specs.PlayParts.{haltOf}
 use Rattle.order.proofs.Outcomes.{then-refused}
 use Rattle.order.proofs.SameOutcomes.{compared-refused, first-refused}
 use borrow.Author.Needs.{needs}

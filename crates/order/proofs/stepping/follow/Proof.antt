@@ -2,7 +2,7 @@
 -- Assumes nothing.
 use mathlib.Core.Path.{_≡_, refl, _∙_, ap, sym}
 use Rattle.model.specs.Schedule.{secondNumbers}
-use Rattle.engine.specs.PlayParts.{haltOf}
+use Rattle.play.specs.PlayParts.{haltOf}
 use Rattle.order.proofs.SameOutcomes.{second-refused}
 use borrow.Author.Needs.{needs}
 use Rattle.order.proofs.stepping.follow.Statement.{statement}

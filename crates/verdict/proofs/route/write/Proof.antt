@@ -6,8 +6,8 @@ use native.Mathlib.Omega.{arith}
 use borrow.Author.Needs.{needs}
 use lib.ListN.{length}
 use Rattle.model.specs.Report.{parts}
-use Rattle.engine.specs.ReportParts.{Wrote}
-use Rattle.engine.proofs.ReportLoops.{Turn, first-turn, next-fits, next-store, all-wrote, all-length}
+use Rattle.writing.specs.Written.{Wrote}
+use Rattle.writing.proofs.Loops.{Turn, first-turn, next-fits, next-store, all-wrote, all-length}
 use Rattle.verdict.proofs.RouteWrite.{positionAt, pull-length, positions-pull}
 use Rattle.verdict.proofs.route.write.Statement.{statement}
 use Rattle.verdict.proofs.route.write.Tie as tie

@@ -1,0 +1,5 @@
+-- The mail in arrays and in the model.
+pub mod MailChanges
+pub mod MailComms
+pub mod MailQueues
+pub mod MailMeets

@@ -1,0 +1,74 @@
+-- `engine::mail::send` meets its contract: what it does to the arrays is the model's `meet` (`MailMeets`).
+-- Assumes nothing.
+use Prim.Native.Nat.{_+_, _*_}
+use mathlib.Core.Path.{refl}
+use native.Mathlib.Omega.{arith}
+use borrow.Author.Needs.{needs}
+use Rattle.mail.specs.MailParts.{sendsAt}
+use Rattle.mail.proofs.MailMeets.{join-posted, pair-posted}
+use Rattle.mail.proofs.send.Statement.{statement}
+use Rattle.mail.proofs.send.Tie as tie
+
+mul-theirs : tie.Need-mul-theirs
+mul-theirs c = search needs
+
+add-theirs : tie.Need-add-theirs
+add-theirs c = search needs
+
+mul-if1 : tie.Need-mul-if1
+mul-if1 c = search needs
+
+element-copy-out-if1 : tie.Need-element-copy-out-if1
+element-copy-out-if1 c = search needs
+
+mul-if1-2 : tie.Need-mul-if1-2
+mul-if1-2 c = search needs
+
+element-copy-out-if1-2 : tie.Need-element-copy-out-if1-2
+element-copy-out-if1-2 c = search needs
+
+take-oldest-requires : tie.Need-take-oldest-requires
+take-oldest-requires c κs =
+    let e = c .before .before .before .before .before in
+    omega (arith, e .pre .0 .bounded (2 * e .args .m + 1))
+
+settle-requires : tie.Need-settle-requires
+settle-requires c κs = search needs
+
+returns : tie.Need-returns
+returns c =
+    let e = c .before .before .before .before .before .before .before .before in
+    let t = c .before .before .take-oldest in
+    pair-posted _ _ _ _ (e .pre .0) (e .args .me) (e .args .value) (e .pre .1) (sendsAt (e .args .m)) (2 * e .args .m + 1) (omega arith) (omega arith)
+    (c .before .before .before .before .before .if1 .taken) (t .result) (t .ensures .0) (t .ensures .1) (e .args .value) refl (e .fits .value .fits)
+    (c .settle .ensures) (t .ensures .2)
+
+mul-join : tie.Need-mul-join
+mul-join c = search needs
+
+join-requires : tie.Need-join-requires
+join-requires c κs = search needs
+
+returns-2 : tie.Need-returns-2
+returns-2 c =
+    let e = c .before .before .before .before .before .before .before in
+    join-posted _ _ _ _ (e .pre .0) (e .args .me) (e .args .value) (e .pre .1) (sendsAt (e .args .m)) (2 * e .args .m) (2 * e .args .m + 1) (omega arith)
+    (omega arith) (omega arith) (omega arith) (e .fits .value .fits) (e .pre .3) (c .before .before .before .before .if1 .left)
+    (c .join .ensures .0) (c .join .ensures .1) (c .join .ensures .2)
+
+pub send-spec : {M : Type 1} → statement M
+send-spec =
+    tie.close
+    (tie.spec
+    mul-theirs
+    add-theirs
+    mul-if1
+    element-copy-out-if1
+    mul-if1-2
+    element-copy-out-if1-2
+    take-oldest-requires
+    settle-requires
+    returns
+    mul-join
+    join-requires
+    returns-2)

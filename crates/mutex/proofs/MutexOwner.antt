@@ -1,0 +1,24 @@
+-- Who owns a mutex: nobody where its queue is empty, or else the actor of the queue's first entry.
+-- Assumes nothing.
+use Prim.Native.Nat.{ℕ, suc, _-_, _*_, _<_}
+use native.Mathlib.Omega.{arith}
+use mathlib.Core.Path.{_≡_, _∙_, ap, sym}
+use mathlib.Core.Bool.{false}
+use mathlib.Core.List.{List}
+use lib.Dec.{eqb}
+use lib.ListN.{length, getD, take, drop}
+use lib.Seq.{drop-cons}
+use Rattle.model.specs.Mutex.{owns}
+use Rattle.state.specs.State.{queuesOf, QueueRoom}
+
+pub owner-none : (entries lens : List ℕ) (m a : ℕ) → getD lens m 0 ≡ 0 → false ≡ owns (queuesOf entries lens m) a
+owner-none entries lens m a e = sym (ap (λ (n : ℕ). owns (take n (drop (8 * m) entries)) a) e)
+
+pub owner-first : (entries lens : List ℕ) (m a : ℕ) → QueueRoom entries lens → m < 8 → (getD lens m 0 ≡ 0 → ⊥)
+    → eqb a (getD entries (8 * m) 0) ≡ owns (queuesOf entries lens m) a
+owner-first entries lens m a room known some =
+    let more : getD lens m 0 ≡ suc (getD lens m 0 - 1) = omega arith in
+    let inside : 8 * m < length entries = omega arith in
+    sym
+    (ap (λ (n : ℕ). owns (take n (drop (8 * m) entries)) a) more
+    ∙ ap (λ (l : List ℕ). owns (take (suc (getD lens m 0 - 1)) l) a) (drop-cons entries (8 * m) 0 inside))

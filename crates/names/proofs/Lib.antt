@@ -1,0 +1,2 @@
+-- Laws of step names as bytes.
+pub mod InByte

@@ -1,0 +1,2 @@
+-- Step names as bytes.
+pub mod InByte

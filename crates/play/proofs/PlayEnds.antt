@@ -1,0 +1,147 @@
+-- The begin and the end of a schedule's run: arrays of zeros hold a fresh site, and after the last entry the arrays hold the end state.
+-- Assumes nothing.
+use mathlib.Core.Path.{_≡_, refl, _∙_, ap, sym, subst, fun-ext}
+use mathlib.Core.Bool.{Bool, true, false, cond}
+use mathlib.Core.Logic.{_⊎_, inl, inr}
+use mathlib.Core.List.{List, [], _∷_, map}
+use Prim.Native.Nat.{ℕ, zero, suc, _+_, _*_, _^_, _<_, _≤_}
+use native.Mathlib.Omega.{arith}
+use lib.Dec.{ltb, lit<}
+use lib.ListN.{length, getD, take, replicate, length-replicate}
+use lib.Seq.{take-length}
+use Rattle.table.specs.Outcome.{accepted as fine}
+use Rattle.trace.specs.Machine.{Name}
+use Rattle.trace.specs.Schedule.{accepted, names}
+use Rattle.trace.proofs.Bools.{which}
+use Rattle.model.specs.Site.{Site, Actor as Record, Port, Comm, unposted, initial}
+use Rattle.model.specs.Schedule.{machine, endState, RefusalNumbers, checkFrom, checkSchedule}
+use Rattle.model.proofs.Checks.{taken-checks}
+use Rattle.model.proofs.ReportBound.{entries-room}
+use Rattle.names.specs.InByte.{nameOf}
+use Rattle.state.specs.State.{recordOf, recordsOf, freshActor, commOf, commsOf, waitingOf, queuesOf, siteOf, portNumber, MailRoom, QueueRoom, EightCells}
+use Rattle.play.specs.PlayParts.{Fresh, Ended}
+use Rattle.state.specs.declared.Actor.{Actor}
+use Rattle.play.specs.declared.Halt.{Halt}
+use Rattle.play.specs.declared.Played.{Played}
+use Rattle.play.proofs.Playing.{reached, Playing}
+
+pub getD-alike : {A : Type 0} (n i : ℕ) (x : A) → getD (replicate n x) i x ≡ x
+getD-alike zero i x = refl
+getD-alike (suc n) zero x = refl
+getD-alike (suc n) (suc i) x = getD-alike n i x
+
+abbrev zeros : ℕ → List ℕ
+zeros n = replicate n 0
+
+fresh-records : recordsOf (replicate 8 freshActor) ≡ (λ a. recordOf freshActor)
+fresh-records = fun-ext (λ a. ap recordOf (getD-alike 8 a freshActor))
+
+fresh-comms : commsOf (zeros 256) ≡ (λ x. unposted)
+fresh-comms = fun-ext each
+  where
+    either : (b : Bool) → cond b unposted unposted ≡ unposted
+    either true = refl
+    either false = refl
+
+    each : (x : Name) → commsOf (zeros 256) x ≡ unposted
+    each x =
+        ap (λ (c : ℕ). cond (ltb (x .position) 32) (commOf c) unposted) (getD-alike 256 (32 * x .actor + x .position) 0)
+        ∙ either (ltb (x .position) 32)
+
+fresh-waiting : (log : List ℕ) → waitingOf log (zeros 16) (zeros 16) ≡ (λ p. [])
+fresh-waiting log = fun-ext each
+  where
+    each : (p : Port) → waitingOf log (zeros 16) (zeros 16) p ≡ []
+    each p = rw (getD-alike {A = ℕ} 16 (portNumber p) 0)
+
+fresh-queues : (entries : List ℕ) → queuesOf entries (zeros 8) ≡ (λ m. [])
+fresh-queues entries = fun-ext each
+  where
+    each : (m : ℕ) → queuesOf entries (zeros 8) m ≡ []
+    each m = rw (getD-alike {A = ℕ} 8 m 0)
+
+fresh-site : (log entries : List ℕ) → siteOf (replicate 8 freshActor) (zeros 256) log (zeros 16) (zeros 16) entries (zeros 8) ≡ initial
+unfolding initial
+fresh-site log entries =
+    λ i. record {
+      actor = fresh-records i;
+      mail = record { comm = fresh-comms i; waiting = fresh-waiting log i };
+      queue = fresh-queues entries i;
+    }
+
+start-zeros : (table schedule names′ : List ℕ) → Fresh table (zeros 256) (zeros 4096) (zeros 16) (zeros 16) (zeros 64) (zeros 8) names′
+    → Playing table schedule (zeros 256) (zeros 4096) (zeros 16) (zeros 16) (zeros 64) (zeros 8) names′ (replicate 8 freshActor) 0
+start-zeros table schedule names′ F =
+    record {
+      accepted-table = F .accepted;
+      site = fresh-site (zeros 4096) (zeros 64);
+      taken = refl;
+      index = omega arith;
+      actors-long = length-replicate 8 freshActor;
+      eight = λ a. ap (λ (r : Actor). length (r .cells)) (getD-alike 8 a freshActor) ∙ length-replicate {A = ℕ} 8 0;
+      mail-room = record {
+        comms-long = length-replicate {A = ℕ} 256 0;
+        log-long = length-replicate {A = ℕ} 4096 0;
+        heads-long = length-replicate {A = ℕ} 16 0;
+        tails-long = length-replicate {A = ℕ} 16 0;
+        ordered = λ n. omega arith;
+        bounded = λ n. omega (arith, getD-alike {A = ℕ} 16 n 0);
+        valued = λ j. subst (λ (c : ℕ). c < 2 ^ 42) (sym (getD-alike {A = ℕ} 256 j 0)) (lit< tt);
+      };
+      queue-room = record {
+        entries-long = length-replicate {A = ℕ} 64 0;
+        lens-long = length-replicate {A = ℕ} 8 0;
+        bounded = λ m. omega (arith, getD-alike {A = ℕ} 8 m 0);
+      };
+      tail-room = λ n. omega (arith, getD-alike {A = ℕ} 16 n 0);
+      names-long = F .names-long;
+      names-right = refl;
+    }
+
+-- fresh arrays hold a fresh site
+pub playing-start : (table schedule comms log heads tails entries lens names′ : List ℕ) (actors : List Actor)
+    → Fresh table comms log heads tails entries lens names′ → actors ≡ replicate 8 freshActor
+    → Playing table schedule comms log heads tails entries lens names′ actors 0
+playing-start table schedule comms log heads tails entries lens names′ actors F e =
+    rw (F .comms-fresh, F .log-fresh, F .heads-fresh, F .tails-fresh, F .entries-fresh, F .lens-fresh, e)
+    (start-zeros table schedule names′
+    (record {
+      accepted = F .accepted;
+      comms-fresh = refl;
+      log-fresh = refl;
+      heads-fresh = refl;
+      tails-fresh = refl;
+      entries-fresh = refl;
+      lens-fresh = refl;
+      names-long = F .names-long;
+    }))
+
+module _ {table schedule comms log heads tails entries lens names′ : List ℕ} {actors : List Actor} {i : ℕ}
+    (P : Playing table schedule comms log heads tails entries lens names′ actors i) (through : length schedule ≤ i) where
+  all : i ≡ length schedule
+  all = omega (arith, P .index)
+
+  whole : take i schedule ≡ schedule
+  whole = ap (λ (n : ℕ). take n schedule) all ∙ take-length schedule
+
+  taken-all : accepted (machine table) initial schedule ≡ true
+  taken-all = sym (ap (accepted (machine table) initial) whole) ∙ P .taken
+
+  pub checks-end : (n : RefusalNumbers) → fine ≡ checkSchedule n table schedule
+  checks-end n = sym (taken-checks table n initial 0 schedule taken-all)
+
+  pub ended : (r : Played) → r .actors ≡ actors → Ended table schedule comms log heads tails entries lens names′ r
+  ended r e =
+      record {
+        site =
+            ap (λ (l : List Actor). siteOf l comms log heads tails entries lens) e ∙ P .site
+            ∙ ap (endState table) whole;
+        actors-long = ap length e ∙ P .actors-long;
+        eight = λ a. ap (λ (l : List Actor). length (getD l a freshActor .cells)) e ∙ P .eight a;
+        mail-room = P .mail-room;
+        queue-room = P .queue-room;
+        entries-most = entries-room table (P .accepted-table) schedule taken-all;
+        names-long = P .names-long;
+        names-right =
+            ap (λ (n : ℕ). map nameOf (take n names′)) (sym all) ∙ P .names-right ∙ ap (names (machine table) initial) whole;
+      }

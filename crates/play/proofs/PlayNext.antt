@@ -1,0 +1,203 @@
+-- From one entry of a schedule to the next: what a step may rely on, what it leaves, and what an entry that is refused makes of the schedule's checks.
+-- Assumes nothing.
+use mathlib.Core.Path.{_≡_, refl, _∙_, ap, ap₂, sym, subst, fun-ext}
+use mathlib.Core.Bool.{Bool, true, false, not, _&&_, _||_}
+use mathlib.Core.Logic.{_⊎_, inl, inr}
+use mathlib.Core.List.{List, [], _∷_, _++_, map}
+use Prim.Native.Nat.{ℕ, zero, suc, _+_, _*_, _<_, _≤_}
+use native.Mathlib.Nat.{zero-add}
+use native.Mathlib.Numerals.{add-one}
+use native.Mathlib.Omega.{arith}
+use borrow.Author.Tests.{lt-ltb, le-ltb, eqb-true, eqb-false}
+use lib.Dec.{eqb, ltb}
+use lib.ListN.{length, getD, take, drop, set, length-set, length-append, take-append-drop}
+use lib.Seq.{take-suc, drop-cons, take-suc-set, take-length, getD-set-same, getD-set-other, length-take-le, take-all}
+use Rattle.table.specs.declared.Action.{Action}
+use Rattle.table.specs.Outcome.{Outcome, accepted as fine, refused, demand, _⨾_}
+use Rattle.table.specs.Format.{actorsOf, countOf}
+use Rattle.table.specs.Decode.{actionOf}
+use Rattle.trace.specs.Machine.{Name}
+use Rattle.trace.specs.Schedule.{accepted, final, names}
+use Rattle.trace.proofs.Bools.{which}
+use Rattle.model.specs.Site.{Site, Mail, Actor as Record, upd, name, initial}
+use Rattle.model.specs.Views.{looks, posts, sent, waits}
+use Rattle.model.specs.Mutex.{join}
+use Rattle.model.specs.Local.{Seen, see, isSeen, local}
+use Rattle.model.specs.Step.{unfinished, passes, ready, step}
+use Rattle.model.specs.Schedule.{machine, RefusalNumbers, checkFrom, checkSchedule}
+use Rattle.model.proofs.ReportBoundSite.{bounds-end}
+use Rattle.model.proofs.ReportBoundCells.{cellsAfter-length}
+use Rattle.model.proofs.ReportBound.{entries-room}
+use Rattle.names.specs.InByte.{nameOf}
+use Rattle.state.specs.State.{recordOf, recordsOf, freshActor, mailOf, queuesOf, siteOf, MailRoom, QueueRoom, EightCells, nextOf, seenFrom}
+use Rattle.step.specs.StepParts.{Steppable, StepTaken}
+use Rattle.state.specs.declared.Actor.{Actor}
+use Rattle.step.specs.declared.Stepped.{Stepped}
+use Rattle.names.proofs.InByte.{name-byte}
+use Rattle.play.proofs.Prefix.{accepted-more, final-more, names-more, checks-after}
+use Rattle.play.proofs.Playing.{reached, Playing, records-set, join-most}
+use Rattle.look.proofs.LookParts.{see-parts}
+
+map-more : (f : ℕ → Name) (l : List ℕ) (x : ℕ) → map f (l ++ (x ∷ [])) ≡ map f l ++ (f x ∷ [])
+map-more f [] x = refl
+map-more f (y ∷ l) x = ap (λ (r : List Name). f y ∷ r) (map-more f l x)
+
+module _ {table schedule comms log heads tails entries lens names′ : List ℕ} {actors : List Actor} {i : ℕ}
+    (P : Playing table schedule comms log heads tails entries lens names′ actors i) where
+  abbrev here : Site
+  here = siteOf actors comms log heads tails entries lens
+
+  pub entries-so-far : i ≤ 256
+  entries-so-far =
+      omega (arith, entries-room table (P .accepted-table) (take i schedule) (P .taken), length-take-le i schedule (P .index))
+
+  -- an actor's record is the one reached
+  record-reached : (a : ℕ) → reached table schedule i .actor a ≡ recordOf (getD actors a freshActor)
+  record-reached a = sym (ap (λ (s : Site). s .actor a) (P .site))
+
+  module _ (more : i < length schedule) where
+    abbrev a : ℕ
+    a = getD schedule i 0
+
+    abbrev r : Actor
+    r = getD actors a freshActor
+
+    one-more : take (i + 1) schedule ≡ take i schedule ++ (a ∷ [])
+    one-more = ap (λ (n : ℕ). take n schedule) (add-one i) ∙ take-suc schedule i 0 more
+
+    -- ---- an entry that is refused
+
+    checks-here : (n : RefusalNumbers) → checkSchedule n table schedule ≡ checkFrom n table (reached table schedule i) i (a ∷ drop (suc i) schedule)
+    checks-here n =
+        ap (checkFrom n table initial 0) (sym (take-append-drop i schedule)) ∙ checks-after n table initial 0 (take i schedule) (drop i schedule) (P .taken)
+        ∙ ap₂ (checkFrom n table (reached table schedule i)) (zero-add (length (take i schedule)) ∙ length-take-le i schedule (P .index))
+        (drop-cons schedule i 0 more)
+
+    pub entry-absent : actorsOf table ≤ a → (n : RefusalNumbers) → refused (n .absent) i ≡ checkSchedule n table schedule
+    entry-absent h n = sym (checks-here n ∙ rw (le-ltb a (actorsOf table) h))
+
+    module _ (in-table : a < actorsOf table) where
+      unfinished-here : (test : Bool) → ltb (r .position) (countOf table a) ≡ test → unfinished table (reached table schedule i) a ≡ test
+      unfinished-here test e = ap (λ (q : Record). ltb (q .position) (countOf table a)) (record-reached a) ∙ e
+
+      pub entry-finished : countOf table a ≤ r .position → (n : RefusalNumbers) → refused (n .finished) i ≡ checkSchedule n table schedule
+      entry-finished h n =
+          sym (checks-here n ∙ rw (lt-ltb a (actorsOf table) in-table, unfinished-here false (le-ltb (r .position) (countOf table a) h)))
+
+      module _ (left : r .position < countOf table a) where
+        abbrev x : Action
+        x = nextOf table a r
+
+        still : unfinished table (reached table schedule i) a ≡ true
+        still = unfinished-here true (lt-ltb (r .position) (countOf table a) left)
+
+        -- the step's own view decides whether the actor is ready
+        ready-here : (test : Bool) → passes table (seenFrom r (mailOf comms log heads tails) (queuesOf entries lens)) a x ≡ test
+            → ready table (reached table schedule i) a ≡ test
+        unfolding ready
+        ready-here test e =
+            sym (ap (λ (s : Site). ready table s a) (P .site))
+            ∙ rw (lt-ltb a (actorsOf table) in-table, lt-ltb (r .position) (countOf table a) left)
+            (ap (λ (s : Seen). not (waits x) || isSeen s) (see-parts here (seenFrom r (mailOf comms log heads tails) (queuesOf entries lens)) a (looks x) refl refl)
+            ∙ e)
+
+        pub entry-waiting : passes table (seenFrom r (mailOf comms log heads tails) (queuesOf entries lens)) a x ≡ false
+            → (n : RefusalNumbers) → refused (n .waiting) i ≡ checkSchedule n table schedule
+        entry-waiting e n = sym (checks-here n ∙ rw (lt-ltb a (actorsOf table) in-table, still, ready-here false e))
+
+        -- ---- a step
+
+        taken-more : ready table (reached table schedule i) a ≡ true → accepted (machine table) initial (take (i + 1) schedule) ≡ true
+        taken-more e = rw one-more (accepted-more (machine table) initial (take i schedule) a (P .taken) e)
+
+        room-more : ready table (reached table schedule i) a ≡ true → i < 256
+        room-more e =
+            let all = entries-room table (P .accepted-table) (take (i + 1) schedule) (taken-more e) in
+            let long : length (take (i + 1) schedule) ≡ i + 1 = length-take-le (i + 1) schedule (omega arith) in
+            omega arith
+
+        pub steppable : Steppable table a r comms log heads tails entries lens
+        steppable =
+            record {
+              accepted = P .accepted-table;
+              actor = in-table;
+              unfinished = left;
+              eight = P .eight a;
+              mail-room = P .mail-room;
+              queue-room = P .queue-room;
+              tail-room = λ passing n.
+                  let small = room-more (ready-here true (ap (λ (w : Bool). not w || isSeen (see (seenFrom r (mailOf comms log heads tails) (queuesOf entries lens)) a (looks x))) passing)) in
+                  omega (arith, P .tail-room n);
+              join-room = λ m.
+                  subst (λ (q : ℕ → List ℕ). length (join (q m) a) ≤ 8) (sym (ap (λ (s : Site). s .queue) (P .site)))
+                  (join-most table (reached table schedule i) a (P .accepted-table) (bounds-end table (take i schedule) (P .taken)) in-table m);
+            }
+
+        module _ {comms′ log′ heads′ tails′ entries′ lens′ : List ℕ} {s : Stepped}
+            (T : StepTaken table a x r comms log heads tails entries lens comms′ log′ heads′ tails′ entries′ lens′ s) (go : s .ready ≡ true) where
+          was-ready : ready table (reached table schedule i) a ≡ true
+          was-ready = ready-here true (sym (T .ready-right) ∙ go)
+
+          pub room-here : i < 256
+          room-here = room-more was-ready
+
+          in-actors : a < length actors
+          in-actors = omega (arith, P .actors-long, P .accepted-table .actors-most)
+
+          stepped : siteOf (set actors a (s .actor)) comms′ log′ heads′ tails′ entries′ lens′ ≡ step table here a
+          unfolding step
+          stepped =
+              let records : recordsOf (set actors a (s .actor)) ≡ upd eqb (recordsOf actors) a (local (actionOf table a) x (see here a (looks x)) (recordOf r)) =
+              records-set actors a (s .actor) in-actors
+              ∙ ap (upd eqb (recordsOf actors) a)
+              (T .took .record-next
+              ∙ ap (λ (found : Seen). local (actionOf table a) x found (recordOf r))
+              (see-parts (seenFrom r (mailOf comms log heads tails) (queuesOf entries lens)) here a (looks x) refl refl)) in
+              λ j. record { actor = records j; mail = T .took .mail-next j; queue = T .took .queue-next j }
+
+          eight-next : EightCells (s .actor)
+          eight-next =
+              ap (λ (q : Record). length (q .cells)) (T .took .record-next)
+              ∙ cellsAfter-length (actionOf table a) x (see (seenFrom r (mailOf comms log heads tails) (queuesOf entries lens)) a (looks x)) (r .cells)
+              ∙ P .eight a
+
+          eight-all : (j : ℕ) → EightCells (getD (set actors a (s .actor)) j freshActor)
+          eight-all j = at (which (eqb j a))
+            where
+              at : (eqb j a ≡ true) ⊎ (eqb j a ≡ false) → EightCells (getD (set actors a (s .actor)) j freshActor)
+              at (inl e) =
+                  subst (λ (k : ℕ). EightCells (getD (set actors a (s .actor)) k freshActor)) (sym (eqb-true j a e))
+                  (ap (λ (q : Actor). length (q .cells)) (getD-set-same actors a (s .actor) freshActor in-actors) ∙ eight-next)
+              at (inr e) = ap (λ (q : Actor). length (q .cells)) (getD-set-other actors a j (s .actor) freshActor (eqb-false j a e)) ∙ P .eight j
+
+          small-position : r .position < 32
+          small-position = omega (arith, P .accepted-table .actions-most a in-table)
+
+          names-next : map nameOf (take (i + 1) (set names′ i (32 * a + r .position))) ≡ names (machine table) initial (take (i + 1) schedule)
+          names-next =
+              let in-names : i < length names′ = omega (arith, P .names-long, room-here) in
+              let written : take (i + 1) (set names′ i (32 * a + r .position)) ≡ take i names′ ++ ((32 * a + r .position) ∷ []) =
+              ap (λ (n : ℕ). take n (set names′ i (32 * a + r .position))) (add-one i) ∙ take-suc-set names′ i (32 * a + r .position) in-names in
+              let named : nameOf (32 * a + r .position) ≡ name a (reached table schedule i .actor a .position) =
+              name-byte a (r .position) small-position ∙ ap (λ (q : Record). name a (q .position)) (sym (record-reached a)) in
+              ap (map nameOf) written ∙ map-more nameOf (take i names′) (32 * a + r .position)
+              ∙ ap₂ (λ (l : List Name) (y : Name). l ++ (y ∷ [])) (P .names-right) named
+              ∙ sym (ap (names (machine table) initial) one-more ∙ names-more (machine table) initial (take i schedule) a)
+
+          pub playing-next : Playing table schedule comms′ log′ heads′ tails′ entries′ lens′ (set names′ i (32 * a + r .position)) (set actors a (s .actor)) (i + 1)
+          playing-next =
+              record {
+                accepted-table = P .accepted-table;
+                site =
+                    stepped ∙ ap (λ (t : Site). step table t a) (P .site)
+                    ∙ sym (ap (final (machine table) initial) one-more ∙ final-more (machine table) initial (take i schedule) a);
+                taken = taken-more was-ready;
+                index = omega arith;
+                actors-long = simp length-set (P .actors-long);
+                eight = eight-all;
+                mail-room = T .mail-room;
+                queue-room = T .queue-room;
+                tail-room = λ n. omega (arith, T .grown n, P .tail-room n);
+                names-long = simp length-set (P .names-long);
+                names-right = names-next;
+              }

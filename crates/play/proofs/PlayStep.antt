@@ -1,0 +1,78 @@
+-- One entry of a schedule, with the actor and its record as the code has them.
+-- Assumes nothing.
+use mathlib.Core.Path.{_≡_, refl, _∙_, ap, sym, subst}
+use mathlib.Core.Bool.{Bool, true, false}
+use mathlib.Core.List.{List, [], _∷_}
+use Prim.Native.Nat.{ℕ, zero, suc, _+_, _*_, _<_, _≤_}
+use native.Mathlib.Nat.{le-of-suc-le-suc, not-suc-le-zero}
+use lib.ListN.{length, getD, set}
+use Rattle.table.specs.Outcome.{refused}
+use Rattle.table.specs.Format.{actorsOf, countOf}
+use Rattle.model.specs.Step.{passes}
+use Rattle.model.specs.Schedule.{RefusalNumbers, checkSchedule}
+use Rattle.state.specs.State.{freshActor, mailOf, queuesOf, nextOf, seenFrom}
+use Rattle.step.specs.StepParts.{Steppable, StepTaken}
+use Rattle.play.specs.PlayParts.{Ended, PlayedRight, haltOf}
+use Rattle.state.specs.declared.Actor.{Actor}
+use Rattle.step.specs.declared.Stepped.{Stepped}
+use Rattle.play.specs.declared.Halt.{Halt}
+use Rattle.play.specs.declared.Halt.the-variants.{End}
+use Rattle.play.specs.declared.Played.{Played}
+use Rattle.play.proofs.Playing.{Playing}
+use Rattle.play.proofs.PlayNext.{entry-finished, entry-waiting, steppable, room-here, playing-next}
+
+-- what a halt before the end says of the schedule is all that is to be shown
+pub refusal : {table schedule comms log heads tails entries lens names′ : List ℕ} (r : Played) → (r .halt ≡ End → ⊥)
+    → ((n : RefusalNumbers) → haltOf n (r .halt) ≡ checkSchedule n table schedule) → PlayedRight table schedule comms log heads tails entries lens names′ r
+refusal r before h = record { halted = h; ended = λ e. absurd (before e) }
+
+module _ {table schedule comms log heads tails entries lens names′ : List ℕ} {actors : List Actor} {i : ℕ}
+    (P : Playing table schedule comms log heads tails entries lens names′ actors i) (more : i < length schedule)
+    (a : ℕ) (entry : a ≡ getD schedule i 0) (r : Actor) (own : r ≡ getD actors a freshActor) where
+  -- what holds of the entry's actor and its record holds of a and r
+  as-read : (Q : ℕ → Actor → Type 0) → Q (getD schedule i 0) (getD actors (getD schedule i 0) freshActor) → Q a r
+  as-read Q q =
+      subst (Q a) (sym own) (subst (λ (b : ℕ). Q b (getD actors b freshActor)) (sym entry) q)
+
+  pub finished-as : a < actorsOf table → countOf table a ≤ r .position → (n : RefusalNumbers) → refused (n .finished) i ≡ checkSchedule n table schedule
+  finished-as =
+      as-read
+      (λ b q. b < actorsOf table → countOf table b ≤ q .position → (n : RefusalNumbers) → refused (n .finished) i ≡ checkSchedule n table schedule)
+      (entry-finished P more)
+
+  pub waiting-as : a < actorsOf table → r .position < countOf table a
+      → passes table (seenFrom r (mailOf comms log heads tails) (queuesOf entries lens)) a (nextOf table a r) ≡ false
+      → (n : RefusalNumbers) → refused (n .waiting) i ≡ checkSchedule n table schedule
+  waiting-as =
+      as-read
+      (λ b q.
+      b < actorsOf table → q .position < countOf table b
+      → passes table (seenFrom q (mailOf comms log heads tails) (queuesOf entries lens)) b (nextOf table b q) ≡ false
+      → (n : RefusalNumbers) → refused (n .waiting) i ≡ checkSchedule n table schedule)
+      (entry-waiting P more)
+
+  pub steppable-as : a < actorsOf table → r .position < countOf table a → Steppable table a r comms log heads tails entries lens
+  steppable-as =
+      as-read (λ b q. b < actorsOf table → q .position < countOf table b → Steppable table b q comms log heads tails entries lens) (steppable P more)
+
+  pub room-as : {comms′ log′ heads′ tails′ entries′ lens′ : List ℕ} {s : Stepped} → a < actorsOf table → r .position < countOf table a
+      → StepTaken table a (nextOf table a r) r comms log heads tails entries lens comms′ log′ heads′ tails′ entries′ lens′ s → s .ready ≡ true
+      → i < 256
+  room-as {comms′} {log′} {heads′} {tails′} {entries′} {lens′} {s} =
+      as-read
+      (λ b q.
+      b < actorsOf table → q .position < countOf table b
+      → StepTaken table b (nextOf table b q) q comms log heads tails entries lens comms′ log′ heads′ tails′ entries′ lens′ s → s .ready ≡ true
+      → i < 256)
+      (λ in-table left taken go. room-here P more in-table left taken go)
+
+  pub next-as : {comms′ log′ heads′ tails′ entries′ lens′ : List ℕ} {s : Stepped} → a < actorsOf table → r .position < countOf table a
+      → StepTaken table a (nextOf table a r) r comms log heads tails entries lens comms′ log′ heads′ tails′ entries′ lens′ s → s .ready ≡ true
+      → Playing table schedule comms′ log′ heads′ tails′ entries′ lens′ (set names′ i (32 * a + r .position)) (set actors a (s .actor)) (i + 1)
+  next-as {comms′} {log′} {heads′} {tails′} {entries′} {lens′} {s} =
+      as-read
+      (λ b q.
+      b < actorsOf table → q .position < countOf table b
+      → StepTaken table b (nextOf table b q) q comms log heads tails entries lens comms′ log′ heads′ tails′ entries′ lens′ s → s .ready ≡ true
+      → Playing table schedule comms′ log′ heads′ tails′ entries′ lens′ (set names′ i (32 * b + q .position)) (set actors b (s .actor)) (i + 1))
+      (λ in-table left taken go. playing-next P more in-table left taken go)

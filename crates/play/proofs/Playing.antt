@@ -1,0 +1,89 @@
+-- A schedule in the middle of its run: the arrays hold the state that the entries so far have left. What the first entry that is refused, one more
+-- step, and the end make of that.
+-- Assumes nothing.
+use mathlib.Core.Path.{_≡_, refl, _∙_, ap, ap₂, sym, subst, fun-ext}
+use mathlib.Core.Bool.{Bool, true, false, cond, _&&_}
+use mathlib.Core.Logic.{_⊎_, inl, inr, _≢_}
+use mathlib.Core.List.{List, [], _∷_, _++_, map}
+use Prim.Native.Nat.{ℕ, zero, suc, _+_, _*_, _<_, _≤_}
+use native.Mathlib.Nat.{zero-add}
+use native.Mathlib.Numerals.{add-one}
+use native.Mathlib.Omega.{arith}
+use borrow.Author.Tests.{lt-ltb, le-ltb, eq-eqb, eqb-true, eqb-false, ne-eqb}
+use lib.Dec.{eqb, ltb}
+use lib.ListN.{length, getD, take, drop, set, replicate, length-set, length-take, take-append-drop}
+use lib.Seq.{take-suc, drop-cons, take-suc-set, take-length, getD-set-same, getD-set-other, length-take-le}
+use Rattle.table.specs.declared.Action.{Action}
+use Rattle.table.specs.declared.Action.the-variants.{Lock}
+use Rattle.table.specs.Outcome.{Outcome, accepted as fine, refused, demand, _⨾_}
+use Rattle.table.specs.Format.{actorsOf, countOf}
+use Rattle.table.specs.Decode.{actionOf}
+use Rattle.table.specs.Promise.{WellFormed}
+use Rattle.trace.specs.Machine.{Name}
+use Rattle.trace.specs.Schedule.{accepted, final, names}
+use Rattle.trace.specs.Order.{has}
+use Rattle.trace.proofs.Bools.{which}
+use Rattle.model.specs.Site.{Site, Mail, Actor as Record, upd, name, initial}
+use Rattle.model.specs.Views.{Look, blind, communications, mutexes, joins, looks, posts, sent}
+use Rattle.model.specs.Mutex.{join, queueing}
+use Rattle.model.specs.Mail.{mailing}
+use Rattle.model.specs.Local.{see, local}
+use Rattle.model.specs.Step.{unfinished, passes, ready, step, perform}
+use Rattle.model.specs.Ready.{howMany}
+use Rattle.model.specs.Schedule.{machine, endState, RefusalNumbers, checkEntry, checkFrom, checkSchedule}
+use Rattle.model.proofs.ReportBoundSite.{InBounds, bounds-end}
+use Rattle.model.proofs.ReportBoundQueues.{Once, once-count, once-queueing, queueing-members}
+use Rattle.model.proofs.ReportBoundCounts.{howMany-most}
+use Rattle.model.proofs.ReportBoundLengths.{stepped-actor}
+use Rattle.model.proofs.ReportBound.{entries-room}
+use Rattle.names.specs.InByte.{nameOf}
+use Rattle.state.specs.State.{recordOf, recordsOf, freshActor, mailOf, queuesOf, siteOf, MailRoom, QueueRoom, EightCells, nextOf, seenFrom}
+use Rattle.step.specs.StepParts.{Steppable, StepTaken, Took}
+use Rattle.state.specs.declared.Actor.{Actor}
+use Rattle.step.specs.declared.Stepped.{Stepped}
+use Rattle.names.proofs.InByte.{name-byte}
+use Rattle.play.proofs.Prefix.{accepted-more, final-more, names-more, checks-after}
+
+-- the state after the first i entries
+abbrev pub reached : List ℕ → List ℕ → ℕ → Site
+reached table schedule i = final (machine table) initial (take i schedule)
+
+pub record Playing (table schedule comms log heads tails entries lens names′ : List ℕ) (actors : List Actor) (i : ℕ) : Type 0 where
+  pub accepted-table : WellFormed table
+  pub site : siteOf actors comms log heads tails entries lens ≡ reached table schedule i
+  pub taken : accepted (machine table) initial (take i schedule) ≡ true
+  pub index : i ≤ length schedule
+  pub actors-long : length actors ≡ 8
+  pub eight : (a : ℕ) → EightCells (getD actors a freshActor)
+  pub mail-room : MailRoom comms log heads tails
+  pub queue-room : QueueRoom entries lens
+  pub tail-room : (n : ℕ) → getD tails n 0 ≤ i
+  pub names-long : length names′ ≡ 256
+  pub names-right : map nameOf (take i names′) ≡ names (machine table) initial (take i schedule)
+
+-- a record put into its place
+pub records-set : (actors : List Actor) (a : ℕ) (next : Actor) → a < length actors
+    → recordsOf (set actors a next) ≡ upd eqb (recordsOf actors) a (recordOf next)
+records-set actors a next h = fun-ext (λ j. go j (which (eqb j a)))
+  where
+    go : (j : ℕ) → (eqb j a ≡ true) ⊎ (eqb j a ≡ false) → recordsOf (set actors a next) j ≡ upd eqb (recordsOf actors) a (recordOf next) j
+    go j (inl e) =
+        rw e
+        (ap (λ (k : ℕ). recordOf (getD (set actors a next) k freshActor)) (eqb-true j a e)
+        ∙ ap recordOf (getD-set-same actors a next freshActor h))
+    go j (inr e) = rw e (ap recordOf (getD-set-other actors a j next freshActor (eqb-false j a e)))
+
+-- no queue outgrows eight by a Lock
+pub join-most : (table : List ℕ) (s : Site) (a : ℕ) → WellFormed table → InBounds table s → a < actorsOf table → (m : ℕ) → length (join (s .queue m) a) ≤ 8
+join-most table s a ok i here m =
+    let once : Once (join (s .queue m) a) = rw (eq-eqb m m refl) at (once-queueing (joins m) a (s .queue) (i .queued-once) m) in
+    omega (arith, ok .actors-most, once-count (λ b. true) (actorsOf table) 0 (join (s .queue m) a) once member, howMany-most (λ b. true) (actorsOf table) 0)
+  where
+    in-table : (b : ℕ) → (has (s .queue m) b ≡ true) ⊎ ((b ≡ a) × (joins m ≡ joins m)) → b < actorsOf table
+    in-table b (inl h) = let k = i .queued-locked m b h in stepped-actor table s i b (omega (arith, k .1))
+    in-table b (inr h) = omega (arith, h .0)
+
+    member : (b : ℕ) → has (join (s .queue m) a) b ≡ true → (0 ≤ b) × (b < 0 + actorsOf table) × (true ≡ true)
+    member b h =
+        let q : has (queueing (joins m) a (s .queue) m) b ≡ true = rw (eq-eqb m m refl) h in
+        (omega arith, omega (arith, in-table b (queueing-members (joins m) a (s .queue) m b q)), refl)

@@ -1,0 +1,49 @@
+-- What running a schedule takes and leaves.
+-- Assumes nothing: these are definitions.
+use Prim.Native.Nat.{ℕ, _≤_}
+use mathlib.Core.Path.{_≡_}
+use mathlib.Core.List.{List, map}
+use lib.ListN.{length, getD, take, replicate}
+use Rattle.table.specs.Outcome.{Outcome, accepted, refused}
+use Rattle.table.specs.Promise.{WellFormed}
+use Rattle.trace.specs.Schedule.{names}
+use Rattle.model.specs.Site.{initial}
+use Rattle.model.specs.Schedule.{machine, endState, RefusalNumbers, checkSchedule}
+use Rattle.names.specs.InByte.{nameOf}
+use Rattle.state.specs.State.{siteOf, MailRoom, QueueRoom, freshActor, EightCells}
+use Rattle.play.specs.declared.Halt.{Halt}
+use Rattle.play.specs.declared.Halt.the-variants.{End, Absent, Finished, Waiting}
+use Rattle.play.specs.declared.Played.{Played}
+
+-- an accepted table, and arrays of zeros
+pub record Fresh (table comms log heads tails entries lens names′ : List ℕ) : Type 0 where
+  pub accepted : WellFormed table
+  pub comms-fresh : comms ≡ replicate 256 0
+  pub log-fresh : log ≡ replicate 4096 0
+  pub heads-fresh : heads ≡ replicate 16 0
+  pub tails-fresh : tails ≡ replicate 16 0
+  pub entries-fresh : entries ≡ replicate 64 0
+  pub lens-fresh : lens ≡ replicate 8 0
+  pub names-long : length names′ ≡ 256
+
+-- document 01's outcome for where a schedule halts, by the numbers of its refusals
+abbrev pub haltOf : RefusalNumbers → Halt → Outcome
+haltOf n End = accepted
+haltOf n (Absent i) = refused (n .absent) i
+haltOf n (Finished i) = refused (n .finished) i
+haltOf n (Waiting i) = refused (n .waiting) i
+
+-- the end state, in arrays
+pub record Ended (table schedule comms log heads tails entries lens names′ : List ℕ) (r : Played) : Type 0 where
+  pub site : siteOf (r .actors) comms log heads tails entries lens ≡ endState table schedule
+  pub actors-long : length (r .actors) ≡ 8
+  pub eight : (a : ℕ) → EightCells (getD (r .actors) a freshActor)
+  pub mail-room : MailRoom comms log heads tails
+  pub queue-room : QueueRoom entries lens
+  pub entries-most : length schedule ≤ 256
+  pub names-long : length names′ ≡ 256
+  pub names-right : map nameOf (take (length schedule) names′) ≡ names (machine table) initial schedule
+
+pub record PlayedRight (table schedule comms log heads tails entries lens names′ : List ℕ) (r : Played) : Type 0 where
+  pub halted : (n : RefusalNumbers) → haltOf n (r .halt) ≡ checkSchedule n table schedule
+  pub ended : r .halt ≡ End → Ended table schedule comms log heads tails entries lens names′ r

@@ -1,0 +1,76 @@
+// A schedule from a fresh site: each entry's step in turn, as far as the first entry that is refused.
+ghost use mathlib.Core.Path.{_≡_};
+ghost use Prim.Native.Nat.{_<_};
+ghost use Rattle.play.specs.PlayParts.{Fresh, PlayedRight};
+use state::Actor;
+use table::bytes;
+
+// Where a schedule halts: at its end, or at the index of an entry that names no actor, a finished one, or one that waits.
+pub enum Halt {
+    End,
+    Absent(u32),
+    Finished(u32),
+    Waiting(u32),
+}
+
+// Where a schedule halted, and the actors' records there.
+pub struct Played {
+    pub halt: Halt,
+    pub actors: [Actor; 8],
+}
+
+// The arrays come fresh, and hold the end state where the schedule halts at its end; `names` then holds the names of the steps run.
+pub fn play(
+    table: &[u8],
+    schedule: &[u8],
+    comms: &mut [u64; 256],
+    log: &mut [u8; 4096],
+    heads: &mut [usize; 16],
+    tails: &mut [usize; 16],
+    entries: &mut [u8; 64],
+    lens: &mut [usize; 8],
+    names: &mut [u8; 256],
+) -> Played
+    requires { ⌜ Fresh (now table) (now comms) (now log) (now heads) (now tails) (now entries) (now lens) (now names) ⌝ }
+    ensures { λ r. ⌜ PlayedRight (now (table .entry)) (now (schedule .entry)) (now (comms .exit)) (now (log .exit)) (now (heads .exit)) (now (tails .exit))
+        (now (entries .exit)) (now (lens .exit)) (now (names .exit)) r ⌝ }
+{
+    let n = table::access::actors(table);
+    let fresh = Actor::fresh();
+    let mut actors = [fresh; 8];
+    let mut i = 0;
+    while i < schedule.len() {
+        let a = bytes::wide(schedule[i]);
+        if n <= a {
+            return Played {
+                halt: Halt::Absent(i as u32),
+                actors,
+            };
+        }
+        let r = actors[a];
+        let k = r.position;
+        if table::access::actions(table, a) <= k {
+            return Played {
+                halt: Halt::Finished(i as u32),
+                actors,
+            };
+        }
+        let s = step::step(table, a, r, comms, log, heads, tails, entries, lens);
+        let ready = s.ready;
+        if ready {
+            let next = s.actor;
+            names[i] = (32 * a + k) as u8;
+            actors[a] = next;
+            i += 1;
+        } else {
+            return Played {
+                halt: Halt::Waiting(i as u32),
+                actors,
+            };
+        }
+    }
+    Played {
+        halt: Halt::End,
+        actors,
+    }
+}

@@ -1,0 +1,2 @@
+-- Readiness over the arrays.
+pub mod ReadyLaws

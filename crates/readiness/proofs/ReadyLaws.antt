@@ -1,0 +1,97 @@
+-- Readiness over the arrays: one actor's look, the mask from the last actor down, and whether everyone is finished.
+-- Assumes nothing.
+use mathlib.Core.Path.{_≡_, refl, _∙_, ap, ap₂, sym}
+use mathlib.Core.Bool.{Bool, true, false, not, _&&_, _||_, cond}
+use mathlib.Core.List.{List}
+use Prim.Native.Nat.{ℕ, suc, _+_, _-_, _*_, _^_, _<_, _≤_}
+use native.Mathlib.Numerals.{add-one}
+use native.Mathlib.Omega.{arith}
+use borrow.Author.Tests.{lt-ltb, le-ltb, eq-eqb, ne-eqb}
+use lib.Dec.{ltb, eqb, lit≤}
+use lib.ListN.{getD}
+use lib.Pow.{pow-mono}
+use lib.Count.{ones}
+use Rattle.table.specs.declared.Action.{Action}
+use Rattle.table.specs.Format.{actorsOf, countOf}
+use Rattle.model.specs.Site.{Site}
+use Rattle.model.specs.Views.{looks, waits}
+use Rattle.model.specs.Local.{Seen, see, isSeen}
+use Rattle.model.specs.Step.{passes, ready, unfinished}
+use Rattle.model.specs.Ready.{bit, maskOf, howMany, all, Ending, finished, stuck, going, endingOf, ReadyAnswer, readyMask, readyCount, readyAnswer}
+use Rattle.model.proofs.ReadyMask.{mask-small, mask-right}
+use Rattle.state.specs.State.{mailOf, queuesOf, siteOf, freshActor, nextOf, seenFrom}
+use Rattle.readiness.specs.ReadyParts.{siteWith, looksReady, everyoneFinished}
+use Rattle.readiness.specs.Answer.{endingAs, readinessOf}
+use Rattle.state.specs.declared.Actor.{Actor}
+use Rattle.readiness.specs.declared.Ending.the-variants as case
+use Rattle.readiness.specs.declared.Readiness.{Readiness}
+use Rattle.look.proofs.LookParts.{see-parts}
+
+-- ---- one actor
+
+module _ (table : List ℕ) (a : ℕ) (r : Actor) (comms entries lens : List ℕ) where
+  pub looks-finished : countOf table a ≤ r .position → (log heads tails : List ℕ) → false ≡ looksReady table a r comms entries lens log heads tails
+  looks-finished h log heads tails = rw (le-ltb (r .position) (countOf table a) h)
+
+  pub looks-by : (x : Action) → nextOf table a r ≡ x → r .position < countOf table a → (b : Bool)
+      → ((log heads tails : List ℕ) → b ≡ passes table (seenFrom r (mailOf comms log heads tails) (queuesOf entries lens)) a x)
+      → (log heads tails : List ℕ) → b ≡ looksReady table a r comms entries lens log heads tails
+  looks-by x e h b seen log heads tails =
+      rw (lt-ltb (r .position) (countOf table a) h)
+      (seen log heads tails ∙ ap (passes table (seenFrom r (mailOf comms log heads tails) (queuesOf entries lens)) a) (sym e))
+
+pub ready-looks : (table : List ℕ) (actors : List Actor) (comms entries lens log heads tails : List ℕ) (a : ℕ) → a < actorsOf table
+    → ready table (siteWith actors comms entries lens log heads tails) a ≡ looksReady table a (getD actors a freshActor) comms entries lens log heads tails
+unfolding ready
+ready-looks table actors comms entries lens log heads tails a h =
+    rw (lt-ltb a (actorsOf table) h)
+    (ap (λ (s : Seen). ltb (getD actors a freshActor .position) (countOf table a) && (not (waits (nextOf table a (getD actors a freshActor))) || isSeen s))
+    (see-parts (siteWith actors comms entries lens log heads tails) (seenFrom (getD actors a freshActor) (mailOf comms log heads tails) (queuesOf entries lens)) a
+    (looks (nextOf table a (getD actors a freshActor))) refl refl))
+
+-- ---- the mask
+
+-- one bit more, below those that stand
+pub mask-next : (f : ℕ → Bool) (n a : ℕ) → 0 < a → a ≤ n → maskOf f (n - (a - 1)) (a - 1) ≡ bit (f (a - 1)) + 2 * maskOf f (n - a) a
+mask-next f n a h low =
+    let more : n - (a - 1) ≡ suc (n - a) = omega arith in
+    let up : suc (a - 1) ≡ a = omega arith in
+    ap (λ (c : ℕ). maskOf f c (a - 1)) more ∙ ap (λ (k : ℕ). bit (f (a - 1)) + 2 * maskOf f (n - a) k) up
+
+pub mask-begin : (f : ℕ → Bool) (n : ℕ) → 0 ≡ maskOf f (n - n) n
+mask-begin f n = let none : n - n ≡ 0 = omega arith in sym (ap (λ (c : ℕ). maskOf f c n) none)
+
+pub mask-end : (f : ℕ → Bool) (n a : ℕ) → a ≤ 0 → maskOf f (n - a) a ≡ maskOf f n 0
+mask-end f n a h = let z : a ≡ 0 = omega arith in let m : n - a ≡ n = omega arith in ap₂ (maskOf f) m z
+
+-- seven actors' bits leave room for one more
+pub mask-room : (f : ℕ → Bool) (c k : ℕ) → c ≤ 7 → maskOf f c k < 128
+mask-room f c k h = let small : maskOf f c k < 2 ^ c = mask-small f c k in let most : 2 ^ c ≤ 128 = pow-mono h in omega arith
+
+-- ---- everyone
+
+pub all-begin : (f : ℕ → Bool) (n : ℕ) → all f n 0 ≡ all f (n - 0) 0
+all-begin f n = let e : n ≡ n - 0 = omega arith in ap (λ (c : ℕ). all f c 0) e
+
+pub all-next : (f : ℕ → Bool) (n a : ℕ) → a < n → all f (n - a) a ≡ (f a && all f (n - (a + 1)) (a + 1))
+all-next f n a h =
+    let e : n - a ≡ suc (n - (a + 1)) = omega arith in
+    ap (λ (c : ℕ). all f c a) e ∙ ap (λ (k : ℕ). f a && all f (n - (a + 1)) k) (sym (add-one a))
+
+pub all-end : (f : ℕ → Bool) (n a : ℕ) → n ≤ a → all f (n - a) a ≡ true
+all-end f n a h = let e : n - a ≡ 0 = omega arith in ap (λ (c : ℕ). all f c a) e
+
+-- ---- the answer
+
+module _ (table : List ℕ) (actors : List Actor) (comms entries lens log heads tails : List ℕ) where
+  abbrev s : Site
+  s = siteWith actors comms entries lens log heads tails
+
+  pub answer-right : (r : Readiness) → r .mask ≡ readyMask table s → r .count ≡ ones (r .mask)
+      → endingAs (r .ending) ≡ endingOf (everyoneFinished table (actorsOf table) actors) (r .count) → readinessOf r ≡ readyAnswer table s
+  unfolding readyAnswer
+  answer-right r mask count end =
+      let counted : r .count ≡ readyCount table s = count ∙ ap ones mask ∙ mask-right table s .counted in
+      let ending : endingAs (r .ending) ≡ endingOf (everyoneFinished table (actorsOf table) actors) (readyCount table s) =
+      end ∙ ap (endingOf (everyoneFinished table (actorsOf table) actors)) counted in
+      λ i. record { mask = mask i; count = counted i; ending = ending i }

@@ -1,0 +1,111 @@
+-- `engine::ready::ready_mask` meets its contract. The loop's invariant: m has the bits of the actors from a on.
+-- Assumes nothing.
+use mathlib.Core.Path.{_≡_, _∙_, ap, ap₂, sym}
+use mathlib.Core.List.{List, []}
+use Prim.Native.Nat.{ℕ, _+_, _-_, _*_, _<_, _≤_}
+use native.Mathlib.Omega.{arith}
+use borrow.Author.Needs.{needs}
+use Rattle.table.specs.Format.{actorsOf}
+use Rattle.model.specs.Step.{ready}
+use Rattle.model.specs.Ready.{bit, maskOf}
+use Rattle.state.specs.State.{freshActor}
+use Rattle.readiness.specs.ReadyParts.{Answerable, siteWith, looksReady}
+use Rattle.state.specs.declared.Actor.{Actor}
+use Rattle.state.proofs.Within.{getD-within}
+use Rattle.readiness.proofs.ReadyLaws.{ready-looks, mask-begin, mask-next, mask-end, mask-room}
+use Rattle.readiness.proofs.ready_mask.Statement.{statement}
+use Rattle.readiness.proofs.ready_mask.Tie as tie
+
+abbrev Inv-loop : tie.InvT-loop
+Inv-loop table n comms entries lens actors m₀ a₀ m a = (a ≤ n) × ((log heads tails : List ℕ) → m ≡ maskOf (ready table (siteWith actors comms entries lens log heads tails)) (n - a) a)
+
+abbrev μ-loop : tie.MeasureT-loop
+μ-loop table n comms entries lens actors m₀ a₀ m a = a
+
+-- before the last bit the mask is below 128
+room-left : {table : List ℕ} {actors : List Actor} {comms entries lens : List ℕ} {n m a : ℕ} → Answerable table actors comms entries lens → n ≡ actorsOf table
+    → (a ≤ n) × ((log heads tails : List ℕ) → m ≡ maskOf (ready table (siteWith actors comms entries lens log heads tails)) (n - a) a) → 0 < a → m < 128
+room-left {table} {actors} {comms} {entries} {lens} {n} {m} {a} A counted inv some =
+    let few : n - a ≤ 7 = omega (arith, A .accepted .actors-most) in
+    rw (inv .1 [] [] []) (mask-room (ready table (siteWith actors comms entries lens [] [] [])) (n - a) a few)
+
+loop-holds : tie.Need-loop-holds Inv-loop μ-loop
+loop-holds c =
+    (omega arith, λ log heads tails. mask-begin (ready (c .before .args .table .now) (siteWith (c .before .args .t3) (c .before .args .comms .now) (c .before .args .entries .now) (c .before .args .lens .now) log heads tails)) (c .before .args .n))
+
+sub-a : tie.Need-sub-a Inv-loop μ-loop
+sub-a c = search needs
+
+mul-r : tie.Need-mul-r Inv-loop μ-loop
+mul-r c =
+    omega (arith, c .before .before .before .pre .0 .actors-long, c .before .before .before .pre .0 .accepted .actors-most, c .before .before .before .pre .1, c .loop-test .taken)
+
+array-copy-out-r : tie.Need-array-copy-out-r Inv-loop μ-loop
+array-copy-out-r c =
+    omega (arith, c .before .before .before .pre .0 .actors-long, c .before .before .before .pre .0 .accepted .actors-most, c .before .before .before .pre .1, c .loop-test .taken)
+
+is-ready-requires : tie.Need-is-ready-requires Inv-loop μ-loop
+is-ready-requires c κs =
+    let p = c .before .before .before .before .pre .0 in
+    record {
+      accepted = p .accepted;
+      actor = omega (arith, c .before .before .before .before .pre .0 .actors-long, c .before .before .before .before .pre .0 .accepted .actors-most, c .before .before .before .before .pre .1, c .before .loop-test .taken);
+      comms-long = p .comms-long;
+      valued = p .valued;
+      queue-room = p .queue-room;
+    }
+
+bit-requires : tie.Need-bit-requires Inv-loop μ-loop
+bit-requires c κs = search needs
+
+mul-m : tie.Need-mul-m Inv-loop μ-loop
+mul-m c =
+    omega (arith, c .bit .ensures .1, room-left (c .before .before .before .before .before .before .pre .0) (c .before .before .before .before .before .before .pre .1) (c .before .before .before .before .loop .inv) (c .before .before .before .loop-test .taken))
+
+add-m : tie.Need-add-m Inv-loop μ-loop
+add-m c =
+    omega (arith, c .bit .ensures .1, room-left (c .before .before .before .before .before .before .pre .0) (c .before .before .before .before .before .before .pre .1) (c .before .before .before .before .loop .inv) (c .before .before .before .loop-test .taken))
+
+loop-less : tie.Need-loop-less Inv-loop μ-loop
+loop-less c = search needs
+
+loop-again : tie.Need-loop-again Inv-loop μ-loop
+loop-again c = (
+  omega arith,
+  λ log heads tails.
+      ap₂ (λ (x y : ℕ). x + 2 * y)
+      (c .bit .ensures .0
+      ∙ ap bit
+      (c .before .is-ready .ensures log heads tails
+      ∙ ap (λ (r : Actor). looksReady (c .before .before .before .before .before .before .args .table .now) (c .before .before .before .before .loop .a - 1) r (c .before .before .before .before .before .before .args .comms .now) (c .before .before .before .before .before .before .args .entries .now) (c .before .before .before .before .before .before .args .lens .now) log heads tails)
+      (getD-within (c .before .before .before .before .before .before .args .t3) (c .before .before .before .before .loop .a - 1) (record { position = 0; cells = [] }) freshActor (omega (arith, c .before .before .before .before .before .before .pre .0 .actors-long, c .before .before .before .before .before .before .pre .0 .accepted .actors-most, c .before .before .before .before .before .before .pre .1, c .before .before .before .loop-test .taken)))
+      ∙ sym
+      (ready-looks (c .before .before .before .before .before .before .args .table .now) (c .before .before .before .before .before .before .args .t3) (c .before .before .before .before .before .before .args .comms .now) (c .before .before .before .before .before .before .args .entries .now) (c .before .before .before .before .before .before .args .lens .now) log heads tails (c .before .before .before .before .loop .a - 1)
+      (omega (arith, c .before .before .before .before .before .before .pre .0 .actors-long, c .before .before .before .before .before .before .pre .0 .accepted .actors-most, c .before .before .before .before .before .before .pre .1, c .before .before .before .loop-test .taken)))))
+      (c .before .before .before .before .loop .inv .1 log heads tails)
+      ∙ sym (mask-next (ready (c .before .before .before .before .before .before .args .table .now) (siteWith (c .before .before .before .before .before .before .args .t3) (c .before .before .before .before .before .before .args .comms .now) (c .before .before .before .before .before .before .args .entries .now) (c .before .before .before .before .before .before .args .lens .now) log heads tails)) (c .before .before .before .before .before .before .args .n) (c .before .before .before .before .loop .a) (c .before .before .before .loop-test .taken) (c .before .before .before .before .loop .inv .0)),
+)
+
+returns : tie.Need-returns Inv-loop μ-loop
+returns c =
+    λ log heads tails.
+    c .before .loop .inv .1 log heads tails ∙ mask-end (ready (c .before .before .before .args .table .now) (siteWith (c .before .before .before .args .t3) (c .before .before .before .args .comms .now) (c .before .before .before .args .entries .now) (c .before .before .before .args .lens .now) log heads tails)) (c .before .before .before .args .n) (c .before .loop .a) (c .loop-test .left)
+    ∙ ap (λ (n : ℕ). maskOf (ready (c .before .before .before .args .table .now) (siteWith (c .before .before .before .args .t3) (c .before .before .before .args .comms .now) (c .before .before .before .args .entries .now) (c .before .before .before .args .lens .now) log heads tails)) n 0) (c .before .before .before .pre .1)
+
+pub ready-mask-spec : {M : Type 1} → statement M
+ready-mask-spec =
+    tie.close
+    (tie.spec
+    Inv-loop
+    μ-loop
+    loop-holds
+    sub-a
+    mul-r
+    array-copy-out-r
+    is-ready-requires
+    bit-requires
+    mul-m
+    add-m
+    loop-less
+    loop-again
+    returns)

@@ -1,0 +1,153 @@
+// The ready answer of a state: the mask, how many actors are ready, and the ending.
+ghost use mathlib.Core.Path.{_≡_};
+ghost use Prim.Native.Nat.{ℕ, _+_, _≤_};
+ghost use mathlib.Core.List.{List};
+ghost use lib.ListN.{length};
+ghost use Rattle.table.specs.Format.{actorsOf};
+ghost use Rattle.model.specs.Ready.{bit as asBit, readyMask, readyAnswer};
+ghost use Rattle.readiness.specs.ReadyParts.{Answerable, Looked, looksReady, everyoneFinished, siteWith};
+ghost use Rattle.readiness.specs.Answer.{readinessOf};
+use state::Actor;
+use table::Action;
+
+// Whether every actor is finished, nobody is ready although not, or the site is going.
+pub enum Ending {
+    Finished,
+    Stuck,
+    Going,
+}
+
+pub struct Readiness {
+    pub mask: u32,
+    pub count: u32,
+    pub ending: Ending,
+}
+
+// The number of actors that are ready is the number of ones in their mask.
+pub fn answer(
+    table: &[u8],
+    actors: [Actor; 8],
+    comms: &[u64; 256],
+    entries: &[u8; 64],
+    lens: &[usize; 8],
+) -> Readiness
+    requires { ⌜ Answerable (now table) actors (now comms) (now entries) (now lens) ⌝ }
+    ensures { λ r. ⌜ ((log heads tails : List ℕ) → readinessOf r
+        ≡ readyAnswer (now (table .entry)) (siteWith actors (now (comms .entry)) (now (entries .entry)) (now (lens .entry)) log heads tails)) ⌝ }
+{
+    let n = table::access::actors(table);
+    let mask = ready_mask(table, n, actors, comms, entries, lens);
+    let count = u32::count_ones(mask);
+    if all_finished(table, n, actors) {
+        return Readiness {
+            mask,
+            count,
+            ending: Ending::Finished,
+        };
+    }
+    if count == 0 {
+        return Readiness {
+            mask,
+            count,
+            ending: Ending::Stuck,
+        };
+    }
+    Readiness {
+        mask,
+        count,
+        ending: Ending::Going,
+    }
+}
+
+// Bit i of the mask is actor i's, from the last actor down.
+fn ready_mask(
+    table: &[u8],
+    n: usize,
+    actors: [Actor; 8],
+    comms: &[u64; 256],
+    entries: &[u8; 64],
+    lens: &[usize; 8],
+) -> u32
+    requires { ⌜ Answerable (now table) actors (now comms) (now entries) (now lens) × (n ≡ actorsOf (now table)) ⌝ }
+    ensures { λ m. ⌜ ((log heads tails : List ℕ) → m
+        ≡ readyMask (now (table .entry)) (siteWith actors (now (comms .entry)) (now (entries .entry)) (now (lens .entry)) log heads tails)) ⌝ }
+{
+    let mut m = 0;
+    let mut a = n;
+    while 0 < a {
+        a -= 1;
+        let r = actors[a];
+        m = bit(is_ready(table, a, r, comms, entries, lens)) + 2 * m;
+    }
+    m
+}
+
+// Whether an actor is ready: not finished, and it need not wait.
+fn is_ready(
+    table: &[u8],
+    a: usize,
+    r: Actor,
+    comms: &[u64; 256],
+    entries: &[u8; 64],
+    lens: &[usize; 8],
+) -> bool
+    requires { ⌜ Looked (now table) a (now comms) (now entries) (now lens) ⌝ }
+    ensures { λ b. ⌜ ((log heads tails : List ℕ) → b
+        ≡ looksReady (now (table .entry)) a r (now (comms .entry)) (now (entries .entry)) (now (lens .entry)) log heads tails) ⌝ }
+{
+    let k = r.position;
+    if table::access::actions(table, a) <= k {
+        return false;
+    }
+    let x = table::within::action(table, a, k);
+    match x {
+        Action::Set { cell: _, value: _ } => true,
+        Action::Add { cell: _, other: _ } => true,
+        Action::Lesser { cell: _, other: _ } => true,
+        Action::Send {
+            mailbox: _,
+            cell: _,
+        } => true,
+        Action::Receive {
+            mailbox: _,
+            cell: _,
+        } => true,
+        Action::TestAny { result: _, list: _ } => true,
+        Action::WaitAny { result: _, list } => look::is_seen(look::communications(comms, a, list)),
+        Action::Lock { mutex: _ } => true,
+        Action::Unlock { mutex: _ } => true,
+        Action::MutexTest { result: _, list: _ } => true,
+        Action::MutexWait { result: _, list } => look::is_seen(look::mutexes(
+            entries,
+            lens,
+            a,
+            list,
+        )),
+    }
+}
+
+fn bit(b: bool) -> u32
+    ensures { λ r. ⌜ (r ≡ asBit b) × (r ≤ 1) ⌝ }
+{
+    if b {
+        return 1;
+    }
+    0
+}
+
+// Whether every actor's position has come to its number of actions.
+fn all_finished(table: &[u8], n: usize, actors: [Actor; 8]) -> bool
+    requires { ⌜ (n ≤ 8) × (length actors ≡ 8) ⌝ }
+    ensures { λ b. ⌜ b ≡ everyoneFinished (now (table .entry)) n actors ⌝ }
+{
+    let mut a = 0;
+    while a < n {
+        let r = actors[a];
+        let k = r.position;
+        if k < table::access::actions(table, a) {
+            return false;
+        }
+        a += 1;
+    }
+    true
+}

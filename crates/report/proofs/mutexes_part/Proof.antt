@@ -1,0 +1,89 @@
+-- `engine::report::mutexes_part` meets its contract. The loop's invariant: the first m mutexes are written. Assumes nothing.
+use mathlib.Core.List.{List}
+use Prim.Native.Nat.{ℕ, _-_}
+use native.Mathlib.Omega.{arith}
+use borrow.Author.Needs.{needs}
+use Rattle.model.specs.Report.{mutexBytes}
+use Rattle.state.specs.State.{queuesOf}
+use Rattle.writing.proofs.Loops.{Turn, first-turn, next-at, next-room, next-sum, next-turn, all-wrote, all-length}
+use Rattle.report.proofs.mutexes_part.Statement.{statement}
+use Rattle.report.proofs.mutexes_part.Tie as tie
+
+abbrev mutex : (entries lens : List ℕ) → ℕ → List ℕ
+mutex entries lens m = mutexBytes (queuesOf entries lens m)
+
+abbrev Inv-loop : tie.InvT-loop
+Inv-loop entries lens count buf₀ at₀ m₀ buf at m = Turn (mutex entries lens) count buf₀ m buf at
+
+abbrev μ-loop : tie.MeasureT-loop
+μ-loop entries lens count buf₀ at₀ m₀ buf at m = count - m
+
+loop-holds : tie.Need-loop-holds Inv-loop μ-loop
+loop-holds c = first-turn (c .before .pre .2)
+
+mul-len : tie.Need-mul-len Inv-loop μ-loop
+mul-len c = search needs
+
+element-copy-out-len : tie.Need-element-copy-out-len Inv-loop μ-loop
+element-copy-out-len c = omega (arith, c .before .before .before .pre .1, c .before .before .before .pre .0 .lens-long)
+
+sub-mutex-part : tie.Need-sub-mutex-part Inv-loop μ-loop
+sub-mutex-part c = next-at (c .before .before .loop .inv) (c .before .loop-test .taken)
+
+part-mutex-part-start : tie.Need-part-mutex-part-start Inv-loop μ-loop
+part-mutex-part-start c = next-at (c .before .before .loop .inv) (c .before .loop-test .taken)
+
+part-mutex-part-end : tie.Need-part-mutex-part-end Inv-loop μ-loop
+part-mutex-part-end c = search needs
+
+mutex-part-requires : tie.Need-mutex-part-requires Inv-loop μ-loop
+mutex-part-requires c κs =
+    let t = c .before .before in
+    let s = t .before .before .before in (
+      s .pre .0 .entries-long,
+      omega (arith, t .loop-test .taken, s .pre .1),
+      s .pre .0 .bounded (t .before .loop .m),
+      next-room (t .before .loop .inv) (t .loop-test .taken),
+    )
+
+add-at : tie.Need-add-at Inv-loop μ-loop
+add-at c =
+    let t = c .before .before .before .before .before in
+    omega (arith, next-sum (t .before .loop .inv) (t .loop-test .taken) (c .before .before .mutex-part .ensures .0))
+
+add-m : tie.Need-add-m Inv-loop μ-loop
+add-m c = search needs
+
+loop-less : tie.Need-loop-less Inv-loop μ-loop
+loop-less c = search needs
+
+loop-again : tie.Need-loop-again Inv-loop μ-loop
+loop-again c =
+    let t = c .before .before .before .before .before in
+    next-turn (t .before .loop .inv) (t .loop-test .taken) (c .before .before .mutex-part .ensures)
+
+same-length : tie.Need-same-length Inv-loop μ-loop
+same-length c = all-length (c .before .loop .inv) (c .loop-test .left)
+
+returns : tie.Need-returns Inv-loop μ-loop
+returns c = all-wrote (c .before .loop .inv) (c .loop-test .left)
+
+pub mutexes-part-spec : {M : Type 1} → statement M
+mutexes-part-spec =
+    tie.close
+    (tie.spec
+    Inv-loop
+    μ-loop
+    loop-holds
+    mul-len
+    element-copy-out-len
+    sub-mutex-part
+    part-mutex-part-start
+    part-mutex-part-end
+    mutex-part-requires
+    add-at
+    add-m
+    loop-less
+    loop-again
+    same-length
+    returns)

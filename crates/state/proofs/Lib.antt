@@ -1,0 +1,2 @@
+-- Laws of the arrays that belong to no one function.
+pub mod Within

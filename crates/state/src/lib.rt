@@ -1,0 +1,71 @@
+// The state in arrays: an actor's record and its local steps. `specs/State` says which site of the model the arrays hold.
+ghost use mathlib.Core.Path.{_≡_};
+ghost use Prim.Native.Nat.{_+_, _<_, _%_, _^_, min};
+ghost use lib.ListN.{length, getD, set};
+ghost use Rattle.state.specs.State.{freshActor};
+
+// An actor's record: the number of its next action, and its eight cells.
+pub struct Actor {
+    pub position: usize,
+    pub cells: [u32; 8],
+}
+
+// The local steps: each takes the record and hands it back.
+impl Actor {
+    // At position 0, with all cells 0.
+    pub fn fresh() -> Self
+        ensures { λ r. ⌜ r ≡ freshActor ⌝ }
+    {
+        Actor {
+            position: 0,
+            cells: [0; 8],
+        }
+    }
+
+    // Set, and the writing of a result or of a value that was picked up.
+    pub fn put(mut self, cell: usize, value: u32) -> Self
+        requires { ⌜ (length (self .cells) ≡ 8) × (cell < 8) ⌝ }
+        ensures { λ r. ⌜ (r .position ≡ self .position) × (r .cells ≡ set (self .cells) cell value) ⌝ }
+    {
+        self.cells[cell] = value;
+        self
+    }
+
+    // Add: the sum modulo 2^32.
+    pub fn add(mut self, cell: usize, other: usize) -> Self
+        requires { ⌜ (length (self .cells) ≡ 8) × (cell < 8) × (other < 8) ⌝ }
+        ensures { λ r. ⌜ (r .position ≡ self .position) × (r .cells ≡ set (self .cells) cell ((getD (self .cells) cell 0 + getD (self .cells) other 0) % 2 ^ 32)) ⌝ }
+    {
+        self.cells[cell] = std::num::wrapping_add_u32(self.cells[cell], self.cells[other]);
+        self
+    }
+
+    // Lesser: the smaller of the two.
+    pub fn lesser(mut self, cell: usize, other: usize) -> Self
+        requires { ⌜ (length (self .cells) ≡ 8) × (cell < 8) × (other < 8) ⌝ }
+        ensures { λ r. ⌜ (r .position ≡ self .position) × (r .cells ≡ set (self .cells) cell (min (getD (self .cells) cell 0) (getD (self .cells) other 0))) ⌝ }
+    {
+        let x = self.cells[cell];
+        let y = self.cells[other];
+        self.cells[cell] = smaller(x, y);
+        self
+    }
+
+    // The next action follows.
+    pub fn next(mut self) -> Self
+        requires { ⌜ self .position < 32 ⌝ }
+        ensures { λ r. ⌜ (r .position ≡ self .position + 1) × (r .cells ≡ self .cells) ⌝ }
+    {
+        self.position = self.position + 1;
+        self
+    }
+}
+
+fn smaller(x: u32, y: u32) -> u32
+    ensures { λ r. ⌜ r ≡ min x y ⌝ }
+{
+    if x < y {
+        return x;
+    }
+    y
+}

@@ -1,0 +1,159 @@
+// One step of one actor: it looks, its own record takes its local step, and it posts.
+ghost use mathlib.Core.Path.{_≡_};
+ghost use Prim.Native.Nat.{_+_, _<_};
+ghost use lib.ListN.{length, set};
+ghost use Rattle.table.specs.Format.{actorsOf};
+ghost use Rattle.table.specs.Decode.{actionOf};
+ghost use Rattle.table.specs.Promise.{WellFormed};
+ghost use Rattle.model.specs.Local.{pickUpSeen, placeSeen};
+ghost use Rattle.look.specs.LookParts.{seenOf};
+ghost use Rattle.step.specs.StepParts.{Steppable, StepTaken, Picks, SmallPlace};
+ghost use Rattle.state.specs.State.{nextOf};
+use look::Seen;
+use state::Actor;
+use table::Action;
+
+// What a step leaves of its actor's record, where the actor was ready.
+pub struct Stepped {
+    pub ready: bool,
+    pub actor: Actor,
+}
+
+pub fn step(
+    table: &[u8],
+    a: usize,
+    r: Actor,
+    comms: &mut [u64; 256],
+    log: &mut [u8; 4096],
+    heads: &mut [usize; 16],
+    tails: &mut [usize; 16],
+    entries: &mut [u8; 64],
+    lens: &mut [usize; 8],
+) -> Stepped
+    requires { ⌜ Steppable (now table) a r (now comms) (now log) (now heads) (now tails) (now entries) (now lens) ⌝ }
+    ensures { λ s. ⌜ StepTaken (now (table .entry)) a (nextOf (now (table .entry)) a r) r
+        (now (comms .entry)) (now (log .entry)) (now (heads .entry)) (now (tails .entry)) (now (entries .entry)) (now (lens .entry))
+        (now (comms .exit)) (now (log .exit)) (now (heads .exit)) (now (tails .exit)) (now (entries .exit)) (now (lens .exit)) s ⌝ }
+{
+    let k = r.position;
+    let x = table::within::action(table, a, k);
+    match x {
+        Action::Set { cell, value } => Stepped {
+            ready: true,
+            actor: r.put(cell, value).next(),
+        },
+        Action::Add { cell, other } => Stepped {
+            ready: true,
+            actor: r.add(cell, other).next(),
+        },
+        Action::Lesser { cell, other } => Stepped {
+            ready: true,
+            actor: r.lesser(cell, other).next(),
+        },
+        Action::Send { mailbox, cell } => {
+            let value = r.cells[cell];
+            mail::send(comms, log, heads, tails, 32 * a + k, mailbox, value);
+            Stepped {
+                ready: true,
+                actor: r.next(),
+            }
+        }
+        Action::Receive { mailbox, cell: _ } => {
+            mail::receive(comms, log, heads, tails, 32 * a + k, mailbox);
+            Stepped {
+                ready: true,
+                actor: r.next(),
+            }
+        }
+        Action::TestAny { result, list } => {
+            let seen = look::communications(comms, a, list);
+            Stepped {
+                ready: true,
+                actor: told(picked(table, a, r, seen), result, seen),
+            }
+        }
+        Action::WaitAny { result, list } => {
+            let seen = look::communications(comms, a, list);
+            Stepped {
+                ready: look::is_seen(seen),
+                actor: told(picked(table, a, r, seen), result, seen),
+            }
+        }
+        Action::Lock { mutex } => {
+            mutex::join(entries, lens, mutex, a);
+            Stepped {
+                ready: true,
+                actor: r.next(),
+            }
+        }
+        Action::Unlock { mutex } => {
+            mutex::leave(entries, lens, mutex, a);
+            Stepped {
+                ready: true,
+                actor: r.next(),
+            }
+        }
+        Action::MutexTest { result, list } => {
+            let seen = look::mutexes(entries, lens, a, list);
+            Stepped {
+                ready: true,
+                actor: told(r, result, seen),
+            }
+        }
+        Action::MutexWait { result, list } => {
+            let seen = look::mutexes(entries, lens, a, list);
+            Stepped {
+                ready: look::is_seen(seen),
+                actor: told(r, result, seen),
+            }
+        }
+    }
+}
+
+// The value of a Receive that was found goes into its cell.
+fn picked(table: &[u8], a: usize, r: Actor, seen: Seen) -> Actor
+    requires { ⌜ (length (r .cells) ≡ 8) × WellFormed (now table) × (a < actorsOf (now table)) × Picks (now table) a (seenOf seen) ⌝ }
+    ensures { λ s. ⌜ (s .position ≡ r .position) × (s .cells ≡ pickUpSeen (actionOf (now (table .entry)) a) (seenOf seen) (r .cells)) ⌝ }
+{
+    match seen {
+        Seen::Unseen => r,
+        Seen::At {
+            place: _,
+            number,
+            value,
+        } => {
+            let x = table::within::action(table, a, number);
+            match x {
+                Action::Receive { mailbox: _, cell } => r.put(cell, value),
+                Action::Set { cell: _, value: _ } => r,
+                Action::Add { cell: _, other: _ } => r,
+                Action::Lesser { cell: _, other: _ } => r,
+                Action::Send {
+                    mailbox: _,
+                    cell: _,
+                } => r,
+                Action::TestAny { result: _, list: _ } => r,
+                Action::WaitAny { result: _, list: _ } => r,
+                Action::Lock { mutex: _ } => r,
+                Action::Unlock { mutex: _ } => r,
+                Action::MutexTest { result: _, list: _ } => r,
+                Action::MutexWait { result: _, list: _ } => r,
+            }
+        }
+    }
+}
+
+// The place found, or 0, goes into the result cell, and the next action follows.
+fn told(r: Actor, result: usize, seen: Seen) -> Actor
+    requires { ⌜ (length (r .cells) ≡ 8) × (result < 8) × (r .position < 32) × SmallPlace (seenOf seen) ⌝ }
+    ensures { λ s. ⌜ (s .position ≡ r .position + 1) × (s .cells ≡ set (r .cells) result (placeSeen (seenOf seen))) ⌝ }
+{
+    match seen {
+        Seen::Unseen => r.put(result, 0).next(),
+        Seen::At {
+            place,
+            number: _,
+            value: _,
+        } => r.put(result, place as u32).next(),
+    }
+}

@@ -1,0 +1,5 @@
+-- Laws of writing one part after another.
+pub mod Written
+pub mod Loops
+pub mod Sections
+pub mod Stored

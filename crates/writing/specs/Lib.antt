@@ -1,0 +1,2 @@
+-- What a writer into a lent part promises.
+pub mod Written
