@@ -36,7 +36,7 @@ fn write(table: &[u8], schedule: &[u8], out: &mut [u8]) -> usize
     ensures { λ r. ⌜ Wrote (now (out .entry)) (listingOf (now (table .entry)) (now (schedule .entry))) (now (out .exit)) r ⌝ }
     ensures { λ r. ⌜ r ≤ 1293 ⌝ }
 {
-    let reading = table::read(table);
+    let reading = reader::read(table);
     let Reading::Valid = reading else {
         return lines::refused(reading.number(), reading.position(), out);
     };

@@ -31,7 +31,7 @@ pub fn run(table: &[u8], schedule: &[u8], report: &mut [u8]) -> RunAnswer
     if report.len() < 2912 {
         return RunAnswer::SmallBuffer;
     }
-    let reading = table::read(table);
+    let reading = reader::read(table);
     let Reading::Valid = reading else {
         return RunAnswer::Table(reading);
     };
@@ -89,7 +89,7 @@ pub enum ReadyAnswer {
 pub fn ready(table: &[u8], schedule: &[u8]) -> ReadyAnswer
     ensures { λ r. ⌜ readyResult r ≡ readyOf (now (table .entry)) (now (schedule .entry)) ⌝ }
 {
-    let reading = table::read(table);
+    let reading = reader::read(table);
     let Reading::Valid = reading else {
         return ReadyAnswer::Table(reading);
     };
@@ -135,7 +135,7 @@ pub enum PairAnswer {
 pub fn pair(table: &[u8], actor: u8, action: u8, actor2: u8, action2: u8) -> PairAnswer
     ensures { λ r. ⌜ pairResult r ≡ pairOf (now (table .entry)) (name actor action) (name actor2 action2) ⌝ }
 {
-    let reading = table::read(table);
+    let reading = reader::read(table);
     let Reading::Valid = reading else {
         return PairAnswer::Table(reading);
     };

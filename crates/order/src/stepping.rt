@@ -20,7 +20,7 @@ pub(crate) fn compared(
     requires { ⌜ (length (now names) ≡ 256) × (length (now others) ≡ 256) ⌝ }
     ensures { λ r. ⌜ ComparedRight (now (table .entry)) (now (first .entry)) (now (second .entry)) (now (names .exit)) (now (others .exit)) r ⌝ }
 {
-    let reading = table::read(table);
+    let reading = reader::read(table);
     let Reading::Valid = reading else {
         return SameAnswer::Table(reading);
     };

@@ -26,7 +26,7 @@ pub struct OrderCheck {
 pub extern "C" fn order_check(table: &[u8]) -> OrderCheck
     ensures { λ r. ⌜ (r .refusal ≡ numberOf (readOf (now (table .entry)))) × (r .position ≡ positionOf (readOf (now (table .entry)))) ⌝ }
 {
-    let reading = table::read(table);
+    let reading = reader::read(table);
     OrderCheck {
         refusal: reading.number(),
         position: reading.position(),

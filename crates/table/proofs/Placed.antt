@@ -2,7 +2,7 @@
 -- Assumes nothing.
 use mathlib.Core.Path.{_≡_, _∙_, ap, sym, subst}
 use mathlib.Core.List.{List}
-use Prim.Native.Nat.{ℕ, zero, suc, _+_, _-_, _<_, _≤_}
+use Prim.Native.Nat.{ℕ, zero, suc, _+_, _-_, _*_, _<_, _≤_}
 use native.Mathlib.Nat.{add-zero, zero-add, add-suc, le-refl}
 use native.Mathlib.Omega.{arith}
 use borrow.Author.Tests.{eq-eqb, ne-eqb, le-leb, lt-leb, eqb-true, leb-true}
@@ -11,7 +11,6 @@ use lib.ListN.{length}
 use Rattle.table.specs.Outcome.{accepted, refused, demand, each}
 use Rattle.table.specs.Format.{actorsOf, offsetOf, countOf, dueOf}
 use Rattle.table.specs.Read.{entryOf}
-use Rattle.table.specs.Parts.{Inside}
 use Rattle.table.proofs.Checks.{then-left, then-right, demand-true, each-at}
 
 module _ (b : List ℕ) where
@@ -50,12 +49,9 @@ module _ (b : List ℕ) where
         rw add-suc (omega (arith, offset-due (a + d) here))
 
     -- each actor's actions end at the latest where the file does
-    pub inside : length b ≡ dueOf b (actorsOf b) → Inside b
-    inside end =
-        record {
-          end = λ a h.
-              let rest : ℕ = actorsOf b - suc a in
-              let all : suc a + rest ≡ actorsOf b = omega arith in
-              let rises : dueOf b (suc a) ≤ dueOf b (suc a + rest) = due-rises rest (suc a) (omega arith) in
-              subst (λ (n : ℕ). dueOf b (suc a) ≤ n) (ap (dueOf b) all ∙ sym end) rises;
-        }
+    pub inside : length b ≡ dueOf b (actorsOf b) → (a : ℕ) → a < actorsOf b → offsetOf b a + 8 * countOf b a ≤ length b
+    inside end a h =
+        let rest : ℕ = actorsOf b - suc a in
+        let all : suc a + rest ≡ actorsOf b = omega arith in
+        let rises : dueOf b (suc a) ≤ dueOf b (suc a + rest) = due-rises rest (suc a) (omega arith) in
+        subst (λ (n : ℕ). dueOf b (suc a) ≤ n) (ap (dueOf b) all ∙ sym end) rises

@@ -153,7 +153,7 @@ promised b right =
       mutexes-most = leb-true _ _ (demand-true _ 3 0 (then-right (demand (leb (mailboxesOf b) 8) 3 0) _ others));
       actions-most = count-most b entries;
       directory = leb-true _ _ (demand-true _ 4 0 (then-left (demand (leb (4 + 4 * actorsOf b) (length b)) 4 0) _ directory));
-      inside = inside b entries end .end;
+      inside = inside b entries end;
       in-range = λ actor k in-actors in-actions.
           let own : actorOf b actor ≡ accepted = rw zero-add at (each-at (actorOf b) (actorsOf b) 0 all-actors actor in-actors) in
           checked b actor k (rw zero-add at (each-at (checkOf b (offsetOf b actor)) (countOf b actor) 0 own k in-actions));

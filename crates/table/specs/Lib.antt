@@ -7,4 +7,3 @@ pub mod Decode
 pub mod Read
 pub mod Promise
 pub mod Answer
-pub mod Parts

@@ -1,14 +1,10 @@
-// The table reader: which files are task tables, and what stands in one. The bytes stay where they are.
+// The task table: its actions, the reader's answers, and what stands in an accepted table, read in place.
 ghost use mathlib.Core.Path.{_≡_};
 ghost use Rattle.table.specs.Outcome.{numberOf, positionOf};
 ghost use Rattle.table.specs.Answer.{outcome};
-ghost use Rattle.table.specs.Read.{readOf};
-ghost use Rattle.table.specs.Promise.{WellFormed};
 
 pub mod access;
 pub mod bytes;
-mod entries;
-mod fields;
 pub mod within;
 
 // The numbers that a list names: the first `count` of the four.
@@ -85,36 +81,4 @@ impl Reading {
             Reading::Unused(at) => at,
         }
     }
-}
-
-// Reads a file of any length: whether it is a task table.
-pub fn read(table: &[u8]) -> Reading
-    ensures { λ r. ⌜ outcome r ≡ readOf (now (table .entry)) ⌝ }
-    ensures { λ r. ⌜ (r ≡ Reading.Valid → WellFormed (now (table .entry))) ⌝ }
-{
-    if table.len() < 4 {
-        return Reading::Short;
-    }
-    if table[0] != 1 {
-        return Reading::Edition;
-    }
-    let actors = bytes::wide(table[1]);
-    let mailboxes = bytes::wide(table[2]);
-    let mutexes = bytes::wide(table[3]);
-    if actors < 1 {
-        return Reading::Counts;
-    }
-    if 8 < actors {
-        return Reading::Counts;
-    }
-    if 8 < mailboxes {
-        return Reading::Counts;
-    }
-    if 8 < mutexes {
-        return Reading::Counts;
-    }
-    if table.len() < 4 + 4 * actors {
-        return Reading::Directory;
-    }
-    entries::entries(table, actors, mailboxes, mutexes)
 }

@@ -1,0 +1,2 @@
+-- What the checks of one action promise one another.
+pub mod Parts

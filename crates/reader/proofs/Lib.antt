@@ -1,0 +1,2 @@
+-- Reading by stages.
+pub mod Stages
