@@ -1,24 +1,29 @@
 # make run      the main job: the listing of each folder of examples/, or of SITE=folder
-# make test     everything: layout, every proof and must-fail edit, the Rust side, the calls from C, the listings, the comparison
+# make test     everything: layout, the trust list, every proof and must-fail edit, the Rust side, the calls from C, the listings, the comparison;
+#               then the seconds of each, and the verdict
+# make trust    the list of what a reader must believe, docs/PROOFS.md, compared with the definition files
 # make compare  the proved calls compared with the reference
 # make bench    the proved engine's times and instructions against the reference's; writes docs/BENCHMARK.md
 # make soak     the comparison from a random seed, MINUTES=n minutes long
 
 SHELL := /bin/bash
 .SHELLFLAGS := -o pipefail -c
+MAKEFLAGS += --no-print-directory
 
 CARGO := cd rust && cargo
 LOCKED := --offline --locked
 MINUTES := 10
 SITE :=
 PROOFS := rt ci
-VERDICT := rust/target/verdict.log
+LIB := lib
+STAGE := tests/gate/stage
+export GATE := rust/target/gate
 TURNS := $(CURDIR)/target/bin/turns
 
 WARNINGS := -Wall -Wextra -Wpedantic -Werror -Wshadow -Wconversion -Wstrict-prototypes -Wmissing-prototypes -Wcast-qual
 CFLAGS := -std=c11 -O1 $(WARNINGS)
 
-.PHONY: run test compare bench soak lib program layout rust c-test listings guarded proofs clean
+.PHONY: run test trust compare bench soak lib program layout rust c-test listings guarded proofs clean
 .NOTPARALLEL:
 
 run: program
@@ -28,18 +33,29 @@ else
 	@cd "$(SITE)" && "$(TURNS)"
 endif
 
-# `rt ci` comes first: it removes target/, and what it proves anew the rest is built from. Its last line, the verdict, is shown again at the end.
-test: layout
-	@mkdir -p rust/target
-	$(PROOFS) 2>&1 | tee $(VERDICT)
-	@$(MAKE) --no-print-directory rust c-test listings compare guarded
-	@tail -n 1 $(VERDICT)
+# Stage by stage, and none after one that fails. `rt ci` comes before all that is built: it removes target/, and the rest is built from what it
+# proves anew. The library is then built once, and the stages after that need no LIB.
+test:
+	@mkdir -p $(GATE) && : > $(GATE)/times && date +%s > $(GATE)/began
+	@$(STAGE) 'layout' $(MAKE) layout
+	@$(STAGE) 'trust list' $(MAKE) trust
+	@tests/gate/proofs $(PROOFS)
+	@$(STAGE) 'library' $(MAKE) lib
+	@$(STAGE) 'Rust side' $(MAKE) rust LIB=
+	@$(STAGE) 'C calls' $(MAKE) c-test LIB=
+	@$(STAGE) 'listings' $(MAKE) listings
+	@$(STAGE) 'comparison' $(MAKE) compare LIB=
+	@$(STAGE) 'guard pages' $(MAKE) guarded LIB=
+	@tests/gate/summary
 
-compare: lib
+trust:
+	tests/trust/check
+
+compare: $(LIB)
 	$(CARGO) run $(LOCKED) --release --quiet --bin compare
 
 # Every lent buffer at an inaccessible page.
-guarded: lib
+guarded: $(LIB)
 	$(CARGO) run $(LOCKED) --release --quiet --bin guarded
 
 bench: lib
@@ -63,12 +79,12 @@ layout:
 	rt fmt --check
 	$(CARGO) fmt --all --check
 
-rust: lib
+rust: $(LIB)
 	$(CARGO) clippy $(LOCKED) --quiet --workspace --all-targets -- -D warnings
 	$(CARGO) test $(LOCKED) --quiet --workspace
 	$(CARGO) doc $(LOCKED) --quiet --workspace --no-deps --config 'build.rustdocflags = ["-D", "warnings"]'
 
-c-test: lib
+c-test: $(LIB)
 	mkdir -p target/c-test
 	$(CC) $(CFLAGS) -Iinclude tests/c/calls.c target/staticlib/liborder_ffi.a -o target/c-test/calls
 	target/c-test/calls
