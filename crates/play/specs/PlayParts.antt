@@ -4,15 +4,16 @@ use Prim.Native.Nat.{ℕ, _≤_}
 use mathlib.Core.Path.{_≡_}
 use mathlib.Core.List.{List, map}
 use lib.ListN.{length, getD, take, replicate}
-use Rattle.table.specs.Outcome.{Outcome, accepted, refused}
+use Rattle.table.specs.Outcome.{Outcome, accepted}
 use Rattle.table.specs.Promise.{WellFormed}
 use Rattle.trace.specs.Schedule.{names}
 use Rattle.model.specs.Site.{initial}
 use Rattle.model.specs.Schedule.{machine, endState, RefusalNumbers, checkSchedule}
 use Rattle.names.specs.InByte.{nameOf}
 use Rattle.state.specs.State.{siteOf, MailRoom, QueueRoom, freshActor, EightCells}
+use Rattle.refusal.specs.Numbers.{stopOf}
 use Rattle.play.specs.declared.Halt.{Halt}
-use Rattle.play.specs.declared.Halt.the-variants.{End, Absent, Finished, Waiting}
+use Rattle.play.specs.declared.Halt.the-variants.{End, At}
 use Rattle.play.specs.declared.Played.{Played}
 
 -- an accepted table, and arrays of zeros
@@ -29,9 +30,7 @@ pub record Fresh (table comms log heads tails entries lens names′ : List ℕ) 
 -- document 01's outcome for where a schedule halts, by the numbers of its refusals
 abbrev pub haltOf : RefusalNumbers → Halt → Outcome
 haltOf n End = accepted
-haltOf n (Absent i) = refused (n .absent) i
-haltOf n (Finished i) = refused (n .finished) i
-haltOf n (Waiting i) = refused (n .waiting) i
+haltOf n (At stop) = stopOf n stop
 
 -- the end state, in arrays
 pub record Ended (table schedule comms log heads tails entries lens names′ : List ℕ) (r : Played) : Type 0 where

@@ -2,15 +2,14 @@
 ghost use mathlib.Core.Path.{_≡_};
 ghost use Prim.Native.Nat.{_<_};
 ghost use Rattle.play.specs.PlayParts.{Fresh, PlayedRight};
+use refusal::Stop;
 use state::Actor;
 use table::bytes;
 
-// Where a schedule halts: at its end, or at the index of an entry that names no actor, a finished one, or one that waits.
+// Where a schedule halts: at its end, or at an entry that is refused.
 pub enum Halt {
     End,
-    Absent(u32),
-    Finished(u32),
-    Waiting(u32),
+    At(Stop),
 }
 
 // Where a schedule halted, and the actors' records there.
@@ -43,7 +42,7 @@ pub fn play(
         let a = bytes::wide(schedule[i]);
         if n <= a {
             return Played {
-                halt: Halt::Absent(i as u32),
+                halt: Halt::At(Stop::Absent(i as u32)),
                 actors,
             };
         }
@@ -51,7 +50,7 @@ pub fn play(
         let k = r.position;
         if table::access::actions(table, a) <= k {
             return Played {
-                halt: Halt::Finished(i as u32),
+                halt: Halt::At(Stop::Finished(i as u32)),
                 actors,
             };
         }
@@ -64,7 +63,7 @@ pub fn play(
             i += 1;
         } else {
             return Played {
-                halt: Halt::Waiting(i as u32),
+                halt: Halt::At(Stop::Waiting(i as u32)),
                 actors,
             };
         }

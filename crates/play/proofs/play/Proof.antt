@@ -7,7 +7,9 @@ use native.Mathlib.Omega.{arith}
 use borrow.Author.Needs.{needs}
 use lib.ListN.{length, getD, replicate}
 use Rattle.play.proofs.Playing.{Playing}
-use Rattle.play.specs.declared.Halt.the-variants.{End, Absent, Finished, Waiting}
+use Rattle.refusal.specs.declared.Stop.{Stop}
+use Rattle.refusal.specs.declared.Stop.the-variants.{Absent, Finished, Waiting}
+use Rattle.play.specs.declared.Halt.the-variants.{End, At}
 use Rattle.step.proofs.Taken.{position-small, actor-small}
 use Rattle.play.proofs.PlayNext.{entries-so-far, entry-absent}
 use Rattle.state.proofs.Within.{getD-within}
@@ -24,15 +26,9 @@ abbrev μ-loop : tie.MeasureT-loop
 μ-loop table schedule comms₀ log₀ heads₀ tails₀ entries₀ lens₀ names₀ n actors₀ i₀ comms log heads tails entries lens names actors i =
     length schedule - i
 
--- the refusals are not the end
-absent-end : {i : ℕ} → Absent i ≡ End → ⊥
-absent-end e = let z : _≡_ {A = ℕ} 0 1 = cc in omega arith
-
-finished-end : {i : ℕ} → Finished i ≡ End → ⊥
-finished-end e = let z : _≡_ {A = ℕ} 0 1 = cc in omega arith
-
-waiting-end : {i : ℕ} → Waiting i ≡ End → ⊥
-waiting-end e = let z : _≡_ {A = ℕ} 0 1 = cc in omega arith
+-- a stop is not the end
+not-end : {stop : Stop} → At stop ≡ End → ⊥
+not-end e = let z : _≡_ {A = ℕ} 0 1 = cc in omega arith
 
 actors-requires : tie.Need-actors-requires Inv-loop μ-loop
 actors-requires c κs = search needs
@@ -56,7 +52,7 @@ cast-t24 c =
 
 returns : tie.Need-returns Inv-loop μ-loop
 returns c =
-    refusal (record { halt = Absent (c .before .before .before .before .loop .i); actors = c .before .before .before .before .loop .actors }) absent-end (entry-absent (c .before .before .before .before .loop .inv) (c .before .before .before .loop-test .taken) (omega (arith, c .before .wide .ensures .0, c .before .before .before .before .before .before .actors .ensures, c .if1 .taken)))
+    refusal (record { halt = At (Absent (c .before .before .before .before .loop .i)); actors = c .before .before .before .before .loop .actors }) not-end (entry-absent (c .before .before .before .before .loop .inv) (c .before .before .before .loop-test .taken) (omega (arith, c .before .wide .ensures .0, c .before .before .before .before .before .before .actors .ensures, c .if1 .taken)))
 
 mul-r : tie.Need-mul-r Inv-loop μ-loop
 mul-r c =
@@ -69,13 +65,13 @@ array-copy-out-r c =
 actions-requires : tie.Need-actions-requires Inv-loop μ-loop
 actions-requires c κs = search needs
 
-cast-t30 : tie.Need-cast-t30 Inv-loop μ-loop
-cast-t30 c =
+cast-t31 : tie.Need-cast-t31 Inv-loop μ-loop
+cast-t31 c =
     omega (arith, entries-so-far (c .before .before .before .before .before .before .before .loop .inv))
 
 returns-2 : tie.Need-returns-2 Inv-loop μ-loop
 returns-2 c =
-    refusal (record { halt = Finished (c .before .before .before .before .before .before .before .loop .i); actors = c .before .before .before .before .before .before .before .loop .actors }) finished-end (finished-as (c .before .before .before .before .before .before .before .loop .inv) (c .before .before .before .before .before .before .loop-test .taken) (c .before .before .before .before .wide .result) (c .before .before .before .before .wide .ensures .0) (getD (c .before .before .before .before .before .before .before .loop .actors) (c .before .before .before .before .wide .result) (record { position = 0; cells = [] })) (getD-within (c .before .before .before .before .before .before .before .loop .actors) (c .before .before .before .before .wide .result) _ _ (omega (arith, c .before .before .before .before .before .before .before .loop .inv .actors-long, c .before .before .before .before .before .before .before .loop .inv .accepted-table .actors-most, c .before .before .before .before .before .before .before .before .before .actors .ensures, c .before .before .before .if1 .left))) (omega (arith, c .before .before .before .before .before .before .before .before .before .actors .ensures, c .before .before .before .if1 .left)) (omega (arith, c .before .actions .ensures, c .if2 .taken)))
+    refusal (record { halt = At (Finished (c .before .before .before .before .before .before .before .loop .i)); actors = c .before .before .before .before .before .before .before .loop .actors }) not-end (finished-as (c .before .before .before .before .before .before .before .loop .inv) (c .before .before .before .before .before .before .loop-test .taken) (c .before .before .before .before .wide .result) (c .before .before .before .before .wide .ensures .0) (getD (c .before .before .before .before .before .before .before .loop .actors) (c .before .before .before .before .wide .result) (record { position = 0; cells = [] })) (getD-within (c .before .before .before .before .before .before .before .loop .actors) (c .before .before .before .before .wide .result) _ _ (omega (arith, c .before .before .before .before .before .before .before .loop .inv .actors-long, c .before .before .before .before .before .before .before .loop .inv .accepted-table .actors-most, c .before .before .before .before .before .before .before .before .before .actors .ensures, c .before .before .before .if1 .left))) (omega (arith, c .before .before .before .before .before .before .before .before .before .actors .ensures, c .before .before .before .if1 .left)) (omega (arith, c .before .actions .ensures, c .if2 .taken)))
 
 step-requires : tie.Need-step-requires Inv-loop μ-loop
 step-requires c κs =
@@ -116,13 +112,13 @@ loop-again : tie.Need-loop-again Inv-loop μ-loop
 loop-again c =
     next-as (c .before .before .before .before .before .before .before .before .before .before .before .before .before .before .before .before .loop .inv) (c .before .before .before .before .before .before .before .before .before .before .before .before .before .before .before .loop-test .taken) (c .before .before .before .before .before .before .before .before .before .before .before .before .before .wide .result) (c .before .before .before .before .before .before .before .before .before .before .before .before .before .wide .ensures .0) (getD (c .before .before .before .before .before .before .before .before .before .before .before .before .before .before .before .before .loop .actors) (c .before .before .before .before .before .before .before .before .before .before .before .before .before .wide .result) (record { position = 0; cells = [] })) (getD-within (c .before .before .before .before .before .before .before .before .before .before .before .before .before .before .before .before .loop .actors) (c .before .before .before .before .before .before .before .before .before .before .before .before .before .wide .result) _ _ (omega (arith, c .before .before .before .before .before .before .before .before .before .before .before .before .before .before .before .before .loop .inv .actors-long, c .before .before .before .before .before .before .before .before .before .before .before .before .before .before .before .before .loop .inv .accepted-table .actors-most, c .before .before .before .before .before .before .before .before .before .before .before .before .before .before .before .before .before .before .actors .ensures, c .before .before .before .before .before .before .before .before .before .before .before .before .if1 .left))) (omega (arith, c .before .before .before .before .before .before .before .before .before .before .before .before .before .before .before .before .before .before .actors .ensures, c .before .before .before .before .before .before .before .before .before .before .before .before .if1 .left)) (omega (arith, c .before .before .before .before .before .before .before .before .before .before .actions .ensures, c .before .before .before .before .before .before .before .before .before .if2 .left)) (c .before .before .step .ensures) (c .before .if3 .taken)
 
-cast-t46 : tie.Need-cast-t46 Inv-loop μ-loop
-cast-t46 c =
+cast-t48 : tie.Need-cast-t48 Inv-loop μ-loop
+cast-t48 c =
     omega (arith, entries-so-far (c .before .before .before .before .before .before .before .before .before .before .before .before .before .before .before .loop .inv))
 
 returns-3 : tie.Need-returns-3 Inv-loop μ-loop
 returns-3 c =
-    refusal (record { halt = Waiting (c .before .before .before .before .before .before .before .before .before .before .before .before .before .before .before .loop .i); actors = c .before .before .before .before .before .before .before .before .before .before .before .before .before .before .before .loop .actors }) waiting-end (waiting-as (c .before .before .before .before .before .before .before .before .before .before .before .before .before .before .before .loop .inv) (c .before .before .before .before .before .before .before .before .before .before .before .before .before .before .loop-test .taken) (c .before .before .before .before .before .before .before .before .before .before .before .before .wide .result) (c .before .before .before .before .before .before .before .before .before .before .before .before .wide .ensures .0) (getD (c .before .before .before .before .before .before .before .before .before .before .before .before .before .before .before .loop .actors) (c .before .before .before .before .before .before .before .before .before .before .before .before .wide .result) (record { position = 0; cells = [] })) (getD-within (c .before .before .before .before .before .before .before .before .before .before .before .before .before .before .before .loop .actors) (c .before .before .before .before .before .before .before .before .before .before .before .before .wide .result) _ _ (omega (arith, c .before .before .before .before .before .before .before .before .before .before .before .before .before .before .before .loop .inv .actors-long, c .before .before .before .before .before .before .before .before .before .before .before .before .before .before .before .loop .inv .accepted-table .actors-most, c .before .before .before .before .before .before .before .before .before .before .before .before .before .before .before .before .before .actors .ensures, c .before .before .before .before .before .before .before .before .before .before .before .if1 .left))) (omega (arith, c .before .before .before .before .before .before .before .before .before .before .before .before .before .before .before .before .before .actors .ensures, c .before .before .before .before .before .before .before .before .before .before .before .if1 .left)) (omega (arith, c .before .before .before .before .before .before .before .before .before .actions .ensures, c .before .before .before .before .before .before .before .before .if2 .left)) (sym (c .before .step .ensures .ready-right) ∙ c .if3 .left))
+    refusal (record { halt = At (Waiting (c .before .before .before .before .before .before .before .before .before .before .before .before .before .before .before .loop .i)); actors = c .before .before .before .before .before .before .before .before .before .before .before .before .before .before .before .loop .actors }) not-end (waiting-as (c .before .before .before .before .before .before .before .before .before .before .before .before .before .before .before .loop .inv) (c .before .before .before .before .before .before .before .before .before .before .before .before .before .before .loop-test .taken) (c .before .before .before .before .before .before .before .before .before .before .before .before .wide .result) (c .before .before .before .before .before .before .before .before .before .before .before .before .wide .ensures .0) (getD (c .before .before .before .before .before .before .before .before .before .before .before .before .before .before .before .loop .actors) (c .before .before .before .before .before .before .before .before .before .before .before .before .wide .result) (record { position = 0; cells = [] })) (getD-within (c .before .before .before .before .before .before .before .before .before .before .before .before .before .before .before .loop .actors) (c .before .before .before .before .before .before .before .before .before .before .before .before .wide .result) _ _ (omega (arith, c .before .before .before .before .before .before .before .before .before .before .before .before .before .before .before .loop .inv .actors-long, c .before .before .before .before .before .before .before .before .before .before .before .before .before .before .before .loop .inv .accepted-table .actors-most, c .before .before .before .before .before .before .before .before .before .before .before .before .before .before .before .before .before .actors .ensures, c .before .before .before .before .before .before .before .before .before .before .before .if1 .left))) (omega (arith, c .before .before .before .before .before .before .before .before .before .before .before .before .before .before .before .before .before .actors .ensures, c .before .before .before .before .before .before .before .before .before .before .before .if1 .left)) (omega (arith, c .before .before .before .before .before .before .before .before .before .actions .ensures, c .before .before .before .before .before .before .before .before .if2 .left)) (sym (c .before .step .ensures .ready-right) ∙ c .if3 .left))
 
 returns-4 : tie.Need-returns-4 Inv-loop μ-loop
 returns-4 c =
@@ -144,7 +140,7 @@ play-spec =
     mul-r
     array-copy-out-r
     actions-requires
-    cast-t30
+    cast-t31
     returns-2
     step-requires
     mul-names
@@ -156,6 +152,6 @@ play-spec =
     add-i
     loop-less
     loop-again
-    cast-t46
+    cast-t48
     returns-3
     returns-4)

@@ -1,0 +1,2 @@
+-- What each refusal stands for.
+pub mod Numbers

@@ -1,0 +1,93 @@
+// The refusals of the public calls, each with document 01's number and position.
+ghost use mathlib.Core.Path.{_≡_};
+ghost use Rattle.table.specs.Outcome.{numberOf, positionOf};
+ghost use Rattle.model.specs.Schedule.{firstNumbers, secondNumbers};
+ghost use Rattle.refusal.specs.Numbers.{stopOf, refusalOf};
+use table::Reading;
+
+// Why a schedule stops before its end, with the entry's index: it names no actor, a finished one, or one that waits.
+pub enum Stop {
+    Absent(u32),
+    Finished(u32),
+    Waiting(u32),
+}
+
+impl Stop {
+    // The number where the schedule is the first, or the only one.
+    pub fn first_number(self) -> u32
+        ensures { λ r. ⌜ r ≡ numberOf (stopOf firstNumbers self) ⌝ }
+    {
+        match self {
+            Stop::Absent(_) => 11,
+            Stop::Finished(_) => 12,
+            Stop::Waiting(_) => 13,
+        }
+    }
+
+    // The number where the schedule is the second.
+    pub fn second_number(self) -> u32
+        ensures { λ r. ⌜ r ≡ numberOf (stopOf secondNumbers self) ⌝ }
+    {
+        match self {
+            Stop::Absent(_) => 14,
+            Stop::Finished(_) => 15,
+            Stop::Waiting(_) => 16,
+        }
+    }
+
+    // The entry's index.
+    pub fn position(self) -> u32
+        ensures first { λ r. ⌜ r ≡ positionOf (stopOf firstNumbers self) ⌝ }
+        ensures second { λ r. ⌜ r ≡ positionOf (stopOf secondNumbers self) ⌝ }
+    {
+        match self {
+            Stop::Absent(i) => i,
+            Stop::Finished(i) => i,
+            Stop::Waiting(i) => i,
+        }
+    }
+}
+
+// Why a call refuses: the table, a schedule, a step's name that is not in the table, a lent buffer that is too small, or, for a route, schedules that
+// differ.
+pub enum Refusal {
+    Table(Reading),
+    ReportRoom,
+    First(Stop),
+    Second(Stop),
+    NoStep,
+    RouteRoom,
+    Different,
+}
+
+impl Refusal {
+    // Document 01's number.
+    pub fn number(self) -> u32
+        ensures { λ r. ⌜ r ≡ numberOf (refusalOf self) ⌝ }
+    {
+        match self {
+            Refusal::Table(reading) => reading.number(),
+            Refusal::ReportRoom => 10,
+            Refusal::First(stop) => stop.first_number(),
+            Refusal::Second(stop) => stop.second_number(),
+            Refusal::NoStep => 17,
+            Refusal::RouteRoom => 18,
+            Refusal::Different => 19,
+        }
+    }
+
+    // An action's offset, an entry's index, or 0.
+    pub fn position(self) -> u32
+        ensures { λ r. ⌜ r ≡ positionOf (refusalOf self) ⌝ }
+    {
+        match self {
+            Refusal::Table(reading) => reading.position(),
+            Refusal::ReportRoom => 0,
+            Refusal::First(stop) => stop.position(),
+            Refusal::Second(stop) => stop.position(),
+            Refusal::NoStep => 0,
+            Refusal::RouteRoom => 0,
+            Refusal::Different => 0,
+        }
+    }
+}
