@@ -20,11 +20,11 @@ use Rattle.model.specs.Listing.{line, endText, refusedText, stepLines, runLines
 use Rattle.model.proofs.Beginnings.{beginnings-decide}
 use Rattle.names.specs.InByte.{nameOf}
 use Rattle.play.specs.PlayParts.{Ended}
-use Rattle.readiness.specs.Answer.{endingAs, readinessOf}
+use Rattle.answers.specs.Answers.{endingAs, readinessOf}
 use Rattle.readiness.specs.ReadyParts.{Answerable}
 use Rattle.writing.specs.Written.{Wrote}
 use Rattle.play.specs.declared.Played.{Played}
-use Rattle.readiness.specs.declared.Readiness.{Readiness}
+use Rattle.answers.specs.declared.Readiness.{Readiness}
 use Rattle.listing.specs.declared.Listing.{Listing}
 use Rattle.listing.specs.Laid.{Laid, firstSteps}
 

@@ -5,7 +5,7 @@ ghost use Prim.Native.Nat.{_*_, _≤_, _/_, _%_};
 ghost use lib.ListN.{length};
 ghost use Rattle.model.specs.Listing.{line, endText, refusedText, stepText};
 ghost use Rattle.names.specs.InByte.{nameOf};
-ghost use Rattle.readiness.specs.Answer.{endingAs};
+ghost use Rattle.answers.specs.Answers.{endingAs};
 ghost use Rattle.writing.specs.Written.{Wrote};
 ghost use Rattle.listing.specs.Laid.{firstSteps};
 use crate::text;

@@ -1,7 +1,4 @@
--- The proofs of this crate that belong to no one function.
+-- The outcome of each call by what is known of its checks.
 pub mod Outcomes
 pub mod PairOutcomes
-pub mod OwnOrder
-pub mod TraceNames
-pub mod SameOutcomes
 pub mod RouteOutcomes

@@ -29,13 +29,6 @@ use Rattle.readiness.specs.ReadyParts.{Answerable}
 use Rattle.report.specs.ReportParts.{Reportable}
 use Rattle.play.specs.declared.Played.{Played}
 
--- a refused check decides
-pub then-refused : (o after : Outcome) (n p : ℕ) → o ≡ refused n p → (o ⨾ after) ≡ refused n p
-then-refused o after n p e = ap (λ (x : Outcome). x ⨾ after) e
-
-pub then-accepted : (o after : Outcome) → o ≡ accepted → (o ⨾ after) ≡ after
-then-accepted o after e = ap (λ (x : Outcome). x ⨾ after) e
-
 module _ (table schedule buffer : List ℕ) where
   pub run-refused : (n p : ℕ) → runChecks table schedule buffer ≡ refused n p
       → (refuses n p ≡ runOf table schedule buffer .result) × (buffer ≡ runOf table schedule buffer .lent)

@@ -10,7 +10,7 @@ use Rattle.trace.specs.Machine.{Name}
 use Rattle.model.specs.Pair.{depends}
 use Rattle.model.specs.Calls.{gives, refuses, answer, inTable, PairVerdict, independent, dependent, pairChecks, pairOf}
 use Rattle.model.proofs.Checks.{answer-given}
-use Rattle.order.proofs.Outcomes.{then-refused, then-accepted}
+use Rattle.table.proofs.Checks.{then-refused, then-accepted}
 
 module _ (table : List ℕ) (x y : Name) where
   pub pair-refused : (n p : ℕ) → pairChecks table x y ≡ refused n p → refuses n p ≡ pairOf table x y

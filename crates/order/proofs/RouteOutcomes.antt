@@ -13,7 +13,7 @@ use lib.ListN.{length, drop, length-append, length-drop}
 use lib.Seq.{take-append-seam, drop-append-seam}
 use Rattle.table.specs.Outcome.{Outcome, accepted, refused, demand, _⨾_}
 use Rattle.table.specs.Read.{readOf}
-use Rattle.table.proofs.Checks.{then-left, then-right}
+use Rattle.table.proofs.Checks.{then-left, then-right, then-refused, then-accepted}
 use Rattle.trace.specs.Same.{equivalent}
 use Rattle.trace.specs.Schedule.{accepted as taken}
 use Rattle.trace.specs.Route.{route}
@@ -25,7 +25,6 @@ use Rattle.model.specs.Calls.{Result, gives, refuses, answer, SameVerdict, same
 use Rattle.model.specs.Route.{mostExchanges, routeChecks, RouteWritten, RightAnswer, RightRoute}
 use Rattle.model.proofs.Checks.{checks-taken, given-accepted, gives-injective, answer-given}
 use Rattle.model.proofs.Demand3.{site-theorems}
-use Rattle.order.proofs.Outcomes.{then-refused, then-accepted}
 
 -- a refused answer is the checks' refusal
 refused-checks : {A : Type 0} (o : Outcome) (a : A) (n p : ℕ) → answer o a ≡ refuses n p → o ≡ refused n p

@@ -4,24 +4,17 @@ ghost use Prim.Native.Nat.{_≤_};
 ghost use Rattle.model.specs.Calls.{inTable, runOf, readyOf, pairOf, sameOf};
 ghost use Rattle.model.specs.Route.{mostExchanges, RightRoute};
 ghost use Rattle.model.specs.Site.{name};
-ghost use Rattle.order.specs.Answers.{runResult, readyResult, pairResult, sameResult, routeResult};
+ghost use Rattle.answers.specs.Answers.{runResult, readyResult, pairResult, sameResult, routeResult};
+use answers::PairAnswer;
+use answers::ReadyAnswer;
+use answers::Refusal;
+use answers::RouteAnswer;
+use answers::RunAnswer;
+use answers::SameAnswer;
 use play::Halt;
-use readiness::Readiness;
 use table::Reading;
 use verdict::pair;
 use verdict::route;
-
-mod stepping;
-
-// The answer of a run: the length of the report that was written, or the refusal.
-pub enum RunAnswer {
-    Written(u32),
-    SmallBuffer,
-    Table(Reading),
-    Absent(u32),
-    Finished(u32),
-    Waiting(u32),
-}
 
 // Runs a schedule from a fresh site and writes the state report of its end into the lent bytes.
 pub fn run(table: &[u8], schedule: &[u8], report: &mut [u8]) -> RunAnswer
@@ -29,11 +22,11 @@ pub fn run(table: &[u8], schedule: &[u8], report: &mut [u8]) -> RunAnswer
     ensures lent { λ r. ⌜ now (report .exit) ≡ runOf (now (table .entry)) (now (schedule .entry)) (now (report .entry)) .lent ⌝ }
 {
     if report.len() < 2912 {
-        return RunAnswer::SmallBuffer;
+        return RunAnswer::Refused(Refusal::ReportRoom);
     }
     let reading = reader::read(table);
     let Reading::Valid = reading else {
-        return RunAnswer::Table(reading);
+        return RunAnswer::Refused(Refusal::Table(reading));
     };
     let mut comms = [0u64; 256];
     let mut log = [0u8; 4096];
@@ -70,19 +63,8 @@ pub fn run(table: &[u8], schedule: &[u8], report: &mut [u8]) -> RunAnswer
             );
             RunAnswer::Written(n as u32)
         }
-        Halt::Absent(i) => RunAnswer::Absent(i),
-        Halt::Finished(i) => RunAnswer::Finished(i),
-        Halt::Waiting(i) => RunAnswer::Waiting(i),
+        Halt::At(stop) => RunAnswer::Refused(Refusal::First(stop)),
     }
-}
-
-// The answer of ready: which actors are ready at the schedule's end, how many, and the ending; or the refusal.
-pub enum ReadyAnswer {
-    Now(Readiness),
-    Table(Reading),
-    Absent(u32),
-    Finished(u32),
-    Waiting(u32),
 }
 
 // Which actors are ready at the end of a schedule from a fresh site.
@@ -91,7 +73,7 @@ pub fn ready(table: &[u8], schedule: &[u8]) -> ReadyAnswer
 {
     let reading = reader::read(table);
     let Reading::Valid = reading else {
-        return ReadyAnswer::Table(reading);
+        return ReadyAnswer::Refused(Refusal::Table(reading));
     };
     let mut comms = [0u64; 256];
     let mut log = [0u8; 4096];
@@ -117,18 +99,8 @@ pub fn ready(table: &[u8], schedule: &[u8]) -> ReadyAnswer
             let actors = played.actors;
             ReadyAnswer::Now(readiness::answer(table, actors, &comms, &entries, &lens))
         }
-        Halt::Absent(i) => ReadyAnswer::Absent(i),
-        Halt::Finished(i) => ReadyAnswer::Finished(i),
-        Halt::Waiting(i) => ReadyAnswer::Waiting(i),
+        Halt::At(stop) => ReadyAnswer::Refused(Refusal::First(stop)),
     }
-}
-
-// The answer of pair: whether the two steps are dependent, or the refusal. `NoStep`: a name is not in the table.
-pub enum PairAnswer {
-    Independent,
-    Dependent,
-    Table(Reading),
-    NoStep,
 }
 
 // Whether two steps, by their names, are dependent.
@@ -137,17 +109,17 @@ pub fn pair(table: &[u8], actor: u8, action: u8, actor2: u8, action2: u8) -> Pai
 {
     let reading = reader::read(table);
     let Reading::Valid = reading else {
-        return PairAnswer::Table(reading);
+        return PairAnswer::Refused(Refusal::Table(reading));
     };
     let a = actor as usize;
     let k = action as usize;
     let b = actor2 as usize;
     let l = action2 as usize;
     if !stands(table, a, k) {
-        return PairAnswer::NoStep;
+        return PairAnswer::Refused(Refusal::NoStep);
     }
     if !stands(table, b, l) {
-        return PairAnswer::NoStep;
+        return PairAnswer::Refused(Refusal::NoStep);
     }
     if pair::dependent(table, a, k, b, l) {
         PairAnswer::Dependent
@@ -166,40 +138,13 @@ fn stands(table: &[u8], actor: usize, action: usize) -> bool
     action < table::access::actions(table, actor)
 }
 
-// The answer of same: whether a chain of exchanges turns the first schedule into the second, or the refusal, with an entry's index.
-pub enum SameAnswer {
-    Same,
-    Different,
-    Table(Reading),
-    Absent(u32),
-    Finished(u32),
-    Waiting(u32),
-    SecondAbsent(u32),
-    SecondFinished(u32),
-    SecondWaiting(u32),
-}
-
 // Whether two schedules are the same.
 pub fn same(table: &[u8], first: &[u8], second: &[u8]) -> SameAnswer
     ensures { λ r. ⌜ sameResult r ≡ sameOf (now (table .entry)) (now (first .entry)) (now (second .entry)) ⌝ }
 {
     let mut names = [0u8; 256];
     let mut others = [0u8; 256];
-    stepping::compared(table, first, second, &mut names, &mut others)
-}
-
-// The answer of route: the length of the route that was written, or the refusal.
-pub enum RouteAnswer {
-    Length(u32),
-    SmallBuffer,
-    Different,
-    Table(Reading),
-    Absent(u32),
-    Finished(u32),
-    Waiting(u32),
-    SecondAbsent(u32),
-    SecondFinished(u32),
-    SecondWaiting(u32),
+    comparison::compared(table, first, second, &mut names, &mut others)
 }
 
 // Writes a route from the first schedule to the second into the lent entries: a chain of exchanges, each by its position.
@@ -208,24 +153,18 @@ pub fn route(table: &[u8], first: &[u8], second: &[u8], route: &mut [u16]) -> Ro
 {
     let mut names = [0u8; 256];
     let mut others = [0u8; 256];
-    let answer = stepping::compared(table, first, second, &mut names, &mut others);
+    let answer = comparison::compared(table, first, second, &mut names, &mut others);
     match answer {
         SameAnswer::Same => {
             let m = first.len();
             if route.len() < most_exchanges(m) {
-                return RouteAnswer::SmallBuffer;
+                return RouteAnswer::Refused(Refusal::RouteRoom);
             }
             let n = route::route(&names, &others, m, route);
             RouteAnswer::Length(n as u32)
         }
-        SameAnswer::Different => RouteAnswer::Different,
-        SameAnswer::Table(r) => RouteAnswer::Table(r),
-        SameAnswer::Absent(i) => RouteAnswer::Absent(i),
-        SameAnswer::Finished(i) => RouteAnswer::Finished(i),
-        SameAnswer::Waiting(i) => RouteAnswer::Waiting(i),
-        SameAnswer::SecondAbsent(i) => RouteAnswer::SecondAbsent(i),
-        SameAnswer::SecondFinished(i) => RouteAnswer::SecondFinished(i),
-        SameAnswer::SecondWaiting(i) => RouteAnswer::SecondWaiting(i),
+        SameAnswer::Different => RouteAnswer::Refused(Refusal::Different),
+        SameAnswer::Refused(refusal) => RouteAnswer::Refused(refusal),
     }
 }
 

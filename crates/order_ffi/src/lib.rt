@@ -5,7 +5,7 @@ ghost use Rattle.table.specs.Read.{readOf};
 ghost use Rattle.order_ffi.specs.Fields.{runFields, readyFields, endingNumber, pairFields, sameFields, routeFields, RightFields};
 ghost use Rattle.model.specs.Site.{name};
 ghost use Rattle.model.specs.Calls.{gives, refuses, runOf, readyOf, pairOf, sameOf};
-ghost use Rattle.readiness.specs.Answer.{readinessOf, endingAs};
+ghost use Rattle.answers.specs.Answers.{readinessOf, endingAs};
 use order::PairAnswer;
 use order::ReadyAnswer;
 use order::RouteAnswer;

@@ -11,7 +11,7 @@ use Rattle.model.specs.Site.{initial}
 use Rattle.model.specs.Schedule.{machine, endState, RefusalNumbers, checkSchedule}
 use Rattle.names.specs.InByte.{nameOf}
 use Rattle.state.specs.State.{siteOf, MailRoom, QueueRoom, freshActor, EightCells}
-use Rattle.refusal.specs.Numbers.{stopOf}
+use Rattle.answers.specs.Answers.{stopOf}
 use Rattle.play.specs.declared.Halt.{Halt}
 use Rattle.play.specs.declared.Halt.the-variants.{End, At}
 use Rattle.play.specs.declared.Played.{Played}

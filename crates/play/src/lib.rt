@@ -2,7 +2,7 @@
 ghost use mathlib.Core.Path.{_≡_};
 ghost use Prim.Native.Nat.{_<_};
 ghost use Rattle.play.specs.PlayParts.{Fresh, PlayedRight};
-use refusal::Stop;
+use answers::Stop;
 use state::Actor;
 use table::bytes;
 

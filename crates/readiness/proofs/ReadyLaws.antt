@@ -21,10 +21,10 @@ use Rattle.model.specs.Ready.{bit, maskOf, howMany, all, Ending, finished, stuc
 use Rattle.model.proofs.ReadyMask.{mask-small, mask-right}
 use Rattle.state.specs.State.{mailOf, queuesOf, siteOf, freshActor, nextOf, seenFrom}
 use Rattle.readiness.specs.ReadyParts.{siteWith, looksReady, everyoneFinished}
-use Rattle.readiness.specs.Answer.{endingAs, readinessOf}
+use Rattle.answers.specs.Answers.{endingAs, readinessOf}
 use Rattle.state.specs.declared.Actor.{Actor}
-use Rattle.readiness.specs.declared.Ending.the-variants as case
-use Rattle.readiness.specs.declared.Readiness.{Readiness}
+use Rattle.answers.specs.declared.Ending.the-variants as case
+use Rattle.answers.specs.declared.Readiness.{Readiness}
 use Rattle.look.proofs.LookParts.{see-parts}
 
 -- ---- one actor

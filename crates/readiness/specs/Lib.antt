@@ -1,3 +1,2 @@
--- What each ready answer stands for; and the answer's parts over the arrays.
-pub mod Answer
+-- The ready answer's parts over the arrays.
 pub mod ReadyParts

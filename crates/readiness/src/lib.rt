@@ -6,22 +6,11 @@ ghost use lib.ListN.{length};
 ghost use Rattle.table.specs.Format.{actorsOf};
 ghost use Rattle.model.specs.Ready.{bit as asBit, readyMask, readyAnswer};
 ghost use Rattle.readiness.specs.ReadyParts.{Answerable, Looked, looksReady, everyoneFinished, siteWith};
-ghost use Rattle.readiness.specs.Answer.{readinessOf};
+ghost use Rattle.answers.specs.Answers.{readinessOf};
+use answers::Ending;
+use answers::Readiness;
 use state::Actor;
 use table::Action;
-
-// Whether every actor is finished, nobody is ready although not, or the site is going.
-pub enum Ending {
-    Finished,
-    Stuck,
-    Going,
-}
-
-pub struct Readiness {
-    pub mask: u32,
-    pub count: u32,
-    pub ending: Ending,
-}
 
 // The number of actors that are ready is the number of ones in their mask.
 pub fn answer(

@@ -69,3 +69,10 @@ each-stop f n i a p h e = each-next f n i h ∙ ap (λ (o : Outcome). o ⨾ each
 -- no check is left
 pub each-end : (f : ℕ → Outcome) (n i : ℕ) → n ≤ i → each f (n - i) i ≡ accepted
 each-end f n i h = let none : n - i ≡ 0 = omega arith in ap (λ (m : ℕ). each f m i) none
+
+-- a refused check decides, and after an accepted one the next does
+pub then-refused : (o after : Outcome) (n p : ℕ) → o ≡ refused n p → (o ⨾ after) ≡ refused n p
+then-refused o after n p e = ap (λ (x : Outcome). x ⨾ after) e
+
+pub then-accepted : (o after : Outcome) → o ≡ accepted → (o ⨾ after) ≡ after
+then-accepted o after e = ap (λ (x : Outcome). x ⨾ after) e

@@ -2,6 +2,7 @@ pub mod Bools
 pub mod Names
 pub mod Swap
 pub mod Run
+pub mod OwnOrder
 pub mod Exchanged
 pub mod Linked
 pub mod Keeps

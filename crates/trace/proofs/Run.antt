@@ -77,7 +77,7 @@ module _ {M : Machine} {Inv : M .State → Type 0} (L : Laws M Inv) where
       go (inr e) = let h : M .pos (M .step s b) a ≡ M .pos s a = L .pos-other s a b i (eqb-false a b e) r in omega arith
 
   -- each name run lies at its actor's position or above it
-  name-above : (s : M .State) (p : List ℕ) → Inv s → accepted M s p ≡ true → (x : Name) → mem x (names M s p) ≡ true
+  pub name-above : (s : M .State) (p : List ℕ) → Inv s → accepted M s p ≡ true → (x : Name) → mem x (names M s p) ≡ true
       → M .pos s (x .actor) ≤ x .position
   name-above s [] i h x m = absurd (false≢true m)
   name-above s (a ∷ p) i h x m =

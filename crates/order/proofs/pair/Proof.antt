@@ -6,7 +6,7 @@ use borrow.Author.Tests.{not-true, not-false}
 use Rattle.table.specs.Answer.{outcome}
 use Rattle.table.proofs.Readings.{refusing}
 use Rattle.model.specs.Site.{name}
-use Rattle.order.proofs.TraceNames.{in-table}
+use Rattle.comparison.proofs.TraceNames.{in-table}
 use Rattle.order.proofs.PairOutcomes.{table-refused, no-first, no-second, pair-given}
 use borrow.Author.Needs.{needs}
 use Rattle.order.proofs.pair.Statement.{statement}

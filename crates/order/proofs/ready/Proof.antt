@@ -7,7 +7,8 @@ use Rattle.table.specs.Answer.{outcome}
 use Rattle.table.proofs.Readings.{refusing}
 use Rattle.model.specs.Schedule.{firstNumbers, checkSchedule}
 use Rattle.play.specs.PlayParts.{haltOf}
-use Rattle.order.proofs.Outcomes.{then-refused, then-accepted, ready-refused, ready-given, answerable}
+use Rattle.table.proofs.Checks.{then-refused, then-accepted}
+use Rattle.order.proofs.Outcomes.{ready-refused, ready-given, answerable}
 use borrow.Author.Needs.{needs}
 use Rattle.order.proofs.ready.Statement.{statement}
 use Rattle.order.proofs.ready.Tie as tie

@@ -6,8 +6,8 @@ use Prim.Native.Nat.{ℕ, _<_, _≤_}
 use native.Mathlib.Omega.{arith}
 use lib.ListN.{length, drop}
 use Rattle.model.specs.Calls.{same as alike}
-use Rattle.order.specs.Answers.{sameResult}
-use Rattle.order.proofs.TraceNames.{routable, route-names}
+use Rattle.answers.specs.Answers.{sameResult}
+use Rattle.comparison.proofs.TraceNames.{routable, route-names}
 use Rattle.order.proofs.RouteOutcomes.{products-few, are-same, one-length, first-taken, second-taken, route-refused, route-different, route-small, route-short, route-given}
 use borrow.Author.Needs.{needs}
 use Rattle.order.proofs.route.Statement.{statement}

@@ -8,7 +8,8 @@ use Rattle.table.specs.Answer.{outcome}
 use Rattle.table.proofs.Readings.{refusing}
 use Rattle.model.specs.Schedule.{firstNumbers, checkSchedule}
 use Rattle.play.specs.PlayParts.{haltOf}
-use Rattle.order.proofs.Outcomes.{then-refused, then-accepted, run-refused, run-given, small-checks, run-checks, reportable, report-small}
+use Rattle.table.proofs.Checks.{then-refused, then-accepted}
+use Rattle.order.proofs.Outcomes.{run-refused, run-given, small-checks, run-checks, reportable, report-small}
 use borrow.Author.Needs.{needs}
 use Rattle.order.proofs.run.Statement.{statement}
 use Rattle.order.proofs.run.Tie as tie

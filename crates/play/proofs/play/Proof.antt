@@ -7,8 +7,8 @@ use native.Mathlib.Omega.{arith}
 use borrow.Author.Needs.{needs}
 use lib.ListN.{length, getD, replicate}
 use Rattle.play.proofs.Playing.{Playing}
-use Rattle.refusal.specs.declared.Stop.{Stop}
-use Rattle.refusal.specs.declared.Stop.the-variants.{Absent, Finished, Waiting}
+use Rattle.answers.specs.declared.Stop.{Stop}
+use Rattle.answers.specs.declared.Stop.the-variants.{Absent, Finished, Waiting}
 use Rattle.play.specs.declared.Halt.the-variants.{End, At}
 use Rattle.step.proofs.Taken.{position-small, actor-small}
 use Rattle.play.proofs.PlayNext.{entries-so-far, entry-absent}

@@ -6,7 +6,7 @@ use native.Mathlib.Omega.{arith}
 use borrow.Author.Tests.{eq-eqb, ne-eqb}
 use lib.Count.{ones}
 use Rattle.readiness.specs.ReadyParts.{everyoneFinished}
-use Rattle.readiness.specs.declared.Ending.the-variants as case
+use Rattle.answers.specs.declared.Ending.the-variants as case
 use Rattle.readiness.proofs.ReadyLaws.{answer-right}
 use borrow.Author.Needs.{needs}
 use Rattle.readiness.proofs.answer.Statement.{statement}

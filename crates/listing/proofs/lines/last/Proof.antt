@@ -1,7 +1,7 @@
 -- `listing::lines::last` meets its contract: the line of each ending. Assumes nothing.
-use Rattle.readiness.specs.Answer.{endingAs}
+use Rattle.answers.specs.Answers.{endingAs}
 use Rattle.writing.specs.Written.{Wrote}
-use Rattle.readiness.specs.declared.Ending.{Ending}
+use Rattle.answers.specs.declared.Ending.{Ending}
 use Rattle.model.specs.Listing.{line, endText}
 use borrow.Author.Needs.{needs}
 use mathlib.Core.Path.{subst, sym}

@@ -3,7 +3,7 @@ use mathlib.Core.List.{List}
 use native.Mathlib.Omega.{arith}
 use borrow.Author.Needs.{needs}
 use Rattle.model.specs.Listing.{line, endText}
-use Rattle.readiness.specs.Answer.{endingAs}
+use Rattle.answers.specs.Answers.{endingAs}
 use Rattle.writing.proofs.Written.{wrote-then}
 use Rattle.listing.specs.Laid.{firstSteps}
 use Rattle.listing.proofs.lines.run.Statement.{statement}

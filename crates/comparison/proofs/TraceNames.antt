@@ -32,8 +32,8 @@ use Rattle.model.proofs.Checks.{steps-in-table}
 use Rattle.model.proofs.Demand3.{site-theorems}
 use Rattle.names.specs.InByte.{nameOf}
 use Rattle.verdict.specs.Names.{namesIn, Stands, Compared, Routable}
-use Rattle.order.specs.Traces.{Kept}
-use Rattle.order.proofs.OwnOrder.{one-order}
+use Rattle.comparison.specs.Traces.{Kept}
+use Rattle.trace.proofs.OwnOrder.{one-order}
 
 pub in-table : (table : List ℕ) (x : Name) → inTable table x ≡ true → Stands table x
 in-table table x h = (

@@ -1,9 +1,9 @@
--- `order::stepping::trace_of` meets its contract: it halts where `play` halts, with the names that `play` kept.
+-- `comparison::trace_of` meets its contract: it halts where `play` halts, with the names that `play` kept.
 -- Assumes nothing.
 use mathlib.Core.Path.{_≡_}
 use borrow.Author.Needs.{needs}
-use Rattle.order.proofs.stepping.trace_of.Statement.{statement}
-use Rattle.order.proofs.stepping.trace_of.Tie as tie
+use Rattle.comparison.proofs.trace_of.Statement.{statement}
+use Rattle.comparison.proofs.trace_of.Tie as tie
 
 play-requires : tie.Need-play-requires
 play-requires c κs = search needs

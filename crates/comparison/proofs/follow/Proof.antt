@@ -1,12 +1,12 @@
--- `order::stepping::follow` meets its contract: a second schedule that halts early is refused 14 to 16, and one that is accepted is judged.
+-- `comparison::follow` meets its contract: a second schedule that halts early is refused 14 to 16, and one that is accepted is judged.
 -- Assumes nothing.
 use mathlib.Core.Path.{_≡_, refl, _∙_, ap, sym}
 use Rattle.model.specs.Schedule.{secondNumbers}
 use Rattle.play.specs.PlayParts.{haltOf}
-use Rattle.order.proofs.SameOutcomes.{second-refused}
+use Rattle.comparison.proofs.SameOutcomes.{second-refused}
 use borrow.Author.Needs.{needs}
-use Rattle.order.proofs.stepping.follow.Statement.{statement}
-use Rattle.order.proofs.stepping.follow.Tie as tie
+use Rattle.comparison.proofs.follow.Statement.{statement}
+use Rattle.comparison.proofs.follow.Tie as tie
 
 trace-of-requires : tie.Need-trace-of-requires
 trace-of-requires c κs = search needs
@@ -31,12 +31,6 @@ judge-requires c κs =
 enum-known-halt : tie.Need-enum-known-halt
 enum-known-halt c = search needs
 
-enum-known-halt-2 : tie.Need-enum-known-halt-2
-enum-known-halt-2 c = search needs
-
-enum-known-halt-3 : tie.Need-enum-known-halt-3
-enum-known-halt-3 c = search needs
-
 returns : tie.Need-returns
 returns c = search needs
 
@@ -46,18 +40,6 @@ returns-2 c =
     second-refused refl (J .read) (J .first-fine)
     (sym (c .before .before .before .trace-of .ensures .halted secondNumbers) ∙ ap (haltOf secondNumbers) (c .before .halt .given .1))
 
-returns-3 : tie.Need-returns-3
-returns-3 c =
-    let J = c .before .before .before .before .before .before .before .before .pre in
-    second-refused refl (J .read) (J .first-fine)
-    (sym (c .before .before .before .trace-of .ensures .halted secondNumbers) ∙ ap (haltOf secondNumbers) (c .before .halt2 .given .1))
-
-returns-4 : tie.Need-returns-4
-returns-4 c =
-    let J = c .before .before .before .before .before .before .before .before .pre in
-    second-refused refl (J .read) (J .first-fine)
-    (sym (c .before .before .before .trace-of .ensures .halted secondNumbers) ∙ ap (haltOf secondNumbers) (c .before .halt3 .given .1))
-
 pub follow-spec : {M : Type 1} → statement M
 follow-spec =
     tie.close
@@ -66,9 +48,5 @@ follow-spec =
     enum-told
     judge-requires
     enum-known-halt
-    enum-known-halt-2
-    enum-known-halt-3
     returns
-    returns-2
-    returns-3
-    returns-4)
+    returns-2)

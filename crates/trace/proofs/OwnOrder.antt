@@ -9,37 +9,14 @@ use mathlib.Core.Bool.{true, false, false≢true}
 use mathlib.Core.List.{List, [], _∷_}
 use borrow.Author.Tests.{eqb-true, eqb-false}
 use lib.Dec.{eqb}
 use Rattle.trace.specs.Machine.{Machine, Laws, Name, nameOf}
 use Rattle.trace.specs.Schedule.{accepted, names}
 use Rattle.trace.specs.Order.{mem, before}
 use Rattle.trace.proofs.Bools.{which, is-false}
 use Rattle.trace.proofs.Names.{mem-cases, before-cases}
-use Rattle.trace.proofs.Run.{first-ready, rest-accepted}
+use Rattle.trace.proofs.Run.{first-ready, rest-accepted, name-above}
 
 module _ {M : Machine} {Inv : M .State → Type 0} (L : Laws M Inv) where
-  -- no step lowers a position
-  pos-rises : (s : M .State) (a b : ℕ) → Inv s → M .ready s b ≡ true → M .pos s a ≤ M .pos (M .step s b) a
-  pos-rises s a b i r = go (which (eqb a b))
-    where
-      go : (eqb a b ≡ true) ⊎ (eqb a b ≡ false) → M .pos s a ≤ M .pos (M .step s b) a
-      go (inl e) = rw (eqb-true a b e) (let h : M .pos s b < M .pos (M .step s b) b = L .pos-own s b i r in omega arith)
-      go (inr e) = let h : M .pos (M .step s b) a ≡ M .pos s a = L .pos-other s a b i (eqb-false a b e) r in omega arith
-
-  -- each name run lies at its actor's position or above it
-  name-above : (s : M .State) (p : List ℕ) → Inv s → accepted M s p ≡ true → (x : Name) → mem x (names M s p) ≡ true
-      → M .pos s (x .actor) ≤ x .position
-  name-above s [] i h x m = absurd (false≢true m)
-  name-above s (a ∷ p) i h x m =
-      go (mem-cases x (nameOf M s a) (names M (M .step s a) p) m) (name-above (M .step s a) p (L .inv-step s a i r) (rest-accepted M s a p h) x)
-    where
-      r : M .ready s a ≡ true
-      r = first-ready M s a p h
-
-      go : (x ≡ nameOf M s a) ⊎ (mem x (names M (M .step s a) p) ≡ true)
-          → (mem x (names M (M .step s a) p) ≡ true → M .pos (M .step s a) (x .actor) ≤ x .position) → M .pos s (x .actor) ≤ x .position
-      go (inl e) rest = rw e (le-refl (M .pos s a))
-      go (inr n) rest = le-trans (pos-rises s (x .actor) a i r) (rest n)
-
   rising : (s : M .State) (p : List ℕ) → Inv s → accepted M s p ≡ true → (x y : Name) → x .actor ≡ y .actor → before x y (names M s p) ≡ true
       → x .position < y .position
   rising s [] i h x y e b = absurd (false≢true b)
@@ -58,7 +35,7 @@ module _ {M : Machine} {Inv : M .State → Type 0} (L : Laws M Inv) where
           let own : y .actor ≡ a = sym e ∙ ap (λ (z : Name). z .actor) (f .0) in
           let here : x .position ≡ M .pos s a = ap (λ (z : Name). z .position) (f .0) in
           let up : M .pos s a < M .pos (M .step s a) a = L .pos-own s a i r in
-          let above : M .pos (M .step s a) (y .actor) ≤ y .position = name-above (M .step s a) p next (rest-accepted M s a p h) y (f .1) in
+          let above : M .pos (M .step s a) (y .actor) ≤ y .position = name-above L (M .step s a) p next (rest-accepted M s a p h) y (f .1) in
           let later : M .pos (M .step s a) a ≤ y .position = rw own at above in
           omega arith
       go (inr k) rest = rest k

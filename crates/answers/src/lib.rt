@@ -1,8 +1,8 @@
-// The refusals of the public calls, each with document 01's number and position.
+// The answers of the public calls and their refusals. `specs/Answers` says what each stands for in document 01.
 ghost use mathlib.Core.Path.{_≡_};
 ghost use Rattle.table.specs.Outcome.{numberOf, positionOf};
 ghost use Rattle.model.specs.Schedule.{firstNumbers, secondNumbers};
-ghost use Rattle.refusal.specs.Numbers.{stopOf, refusalOf};
+ghost use Rattle.answers.specs.Answers.{stopOf, refusalOf};
 use table::Reading;
 
 // Why a schedule stops before its end, with the entry's index: it names no actor, a finished one, or one that waits.
@@ -90,4 +90,50 @@ impl Refusal {
             Refusal::Different => 0,
         }
     }
+}
+
+// The answer of run: the length of the report that was written.
+pub enum RunAnswer {
+    Written(u32),
+    Refused(Refusal),
+}
+
+// Whether every actor is finished, nobody is ready although not, or the site is going.
+pub enum Ending {
+    Finished,
+    Stuck,
+    Going,
+}
+
+// Which actors are ready, a bit each, how many are, and the ending.
+pub struct Readiness {
+    pub mask: u32,
+    pub count: u32,
+    pub ending: Ending,
+}
+
+// The answer of ready.
+pub enum ReadyAnswer {
+    Now(Readiness),
+    Refused(Refusal),
+}
+
+// The answer of pair: whether the two steps are dependent.
+pub enum PairAnswer {
+    Independent,
+    Dependent,
+    Refused(Refusal),
+}
+
+// The answer of same: whether a chain of exchanges turns the first schedule into the second.
+pub enum SameAnswer {
+    Same,
+    Different,
+    Refused(Refusal),
+}
+
+// The answer of route: the length of the route that was written.
+pub enum RouteAnswer {
+    Length(u32),
+    Refused(Refusal),
 }

@@ -1,4 +1,4 @@
--- `order::stepping::compared` meets its contract: a table that is refused, or a first schedule that halts early, decides; after an accepted one the second
+-- `comparison::compared` meets its contract: a table that is refused, or a first schedule that halts early, decides; after an accepted one the second
 -- follows.
 -- Assumes nothing.
 use mathlib.Core.Path.{_≡_, refl, _∙_, ap, sym}
@@ -7,11 +7,11 @@ use Rattle.table.specs.Answer.{outcome}
 use Rattle.table.proofs.Readings.{refusing}
 use Rattle.model.specs.Schedule.{firstNumbers}
 use Rattle.play.specs.PlayParts.{haltOf}
-use Rattle.order.proofs.Outcomes.{then-refused}
-use Rattle.order.proofs.SameOutcomes.{compared-refused, first-refused}
+use Rattle.table.proofs.Checks.{then-refused}
+use Rattle.comparison.proofs.SameOutcomes.{compared-refused, first-refused}
 use borrow.Author.Needs.{needs}
-use Rattle.order.proofs.stepping.compared.Statement.{statement}
-use Rattle.order.proofs.stepping.compared.Tie as tie
+use Rattle.comparison.proofs.compared.Statement.{statement}
+use Rattle.comparison.proofs.compared.Tie as tie
 
 read-requires : tie.Need-read-requires
 read-requires c κs = search needs
@@ -45,12 +45,6 @@ follow-requires c κs =
 enum-known-halt : tie.Need-enum-known-halt
 enum-known-halt c = search needs
 
-enum-known-halt-2 : tie.Need-enum-known-halt-2
-enum-known-halt-2 c = search needs
-
-enum-known-halt-3 : tie.Need-enum-known-halt-3
-enum-known-halt-3 c = search needs
-
 returns-2 : tie.Need-returns-2
 returns-2 c = search needs
 
@@ -58,16 +52,6 @@ returns-3 : tie.Need-returns-3
 returns-3 c =
     first-refused refl (sym (c .before .before .before .before .before .before .before .read .ensures .0) ∙ ap outcome (c .before .before .before .before .before .enum-told .given .1))
     (sym (c .before .before .before .trace-of .ensures .halted firstNumbers) ∙ ap (haltOf firstNumbers) (c .before .halt .given .1))
-
-returns-4 : tie.Need-returns-4
-returns-4 c =
-    first-refused refl (sym (c .before .before .before .before .before .before .before .read .ensures .0) ∙ ap outcome (c .before .before .before .before .before .enum-told .given .1))
-    (sym (c .before .before .before .trace-of .ensures .halted firstNumbers) ∙ ap (haltOf firstNumbers) (c .before .halt2 .given .1))
-
-returns-5 : tie.Need-returns-5
-returns-5 c =
-    first-refused refl (sym (c .before .before .before .before .before .before .before .read .ensures .0) ∙ ap outcome (c .before .before .before .before .before .enum-told .given .1))
-    (sym (c .before .before .before .trace-of .ensures .halted firstNumbers) ∙ ap (haltOf firstNumbers) (c .before .halt3 .given .1))
 
 pub compared-spec : {M : Type 1} → statement M
 compared-spec =
@@ -80,9 +64,5 @@ compared-spec =
     enum-told-2
     follow-requires
     enum-known-halt
-    enum-known-halt-2
-    enum-known-halt-3
     returns-2
-    returns-3
-    returns-4
-    returns-5)
+    returns-3)

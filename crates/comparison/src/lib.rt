@@ -2,15 +2,16 @@
 ghost use mathlib.Core.Path.{_≡_};
 ghost use lib.ListN.{length};
 ghost use Rattle.table.specs.Promise.{WellFormed};
-ghost use Rattle.order.specs.Traces.{Traced, Following, Judged, ComparedRight};
-use crate::SameAnswer;
+ghost use Rattle.comparison.specs.Traces.{Traced, Following, Judged, ComparedRight};
+use answers::Refusal;
+use answers::SameAnswer;
 use play::Halt;
 use table::Reading;
 use verdict::same;
 
 // Reads the table, steps the first schedule whole and then the second, and judges. `names` and `others` are left with the names of the
 // steps that the two run, where they are the same.
-pub(crate) fn compared(
+pub fn compared(
     table: &[u8],
     first: &[u8],
     second: &[u8],
@@ -22,14 +23,12 @@ pub(crate) fn compared(
 {
     let reading = reader::read(table);
     let Reading::Valid = reading else {
-        return SameAnswer::Table(reading);
+        return SameAnswer::Refused(Refusal::Table(reading));
     };
     let halt = trace_of(table, first, names);
     match halt {
         Halt::End => follow(table, first, second, names, others),
-        Halt::Absent(i) => SameAnswer::Absent(i),
-        Halt::Finished(i) => SameAnswer::Finished(i),
-        Halt::Waiting(i) => SameAnswer::Waiting(i),
+        Halt::At(stop) => SameAnswer::Refused(Refusal::First(stop)),
     }
 }
 
@@ -47,9 +46,7 @@ fn follow(
     let halt = trace_of(table, second, others);
     match halt {
         Halt::End => judge(table, first, second, names, others),
-        Halt::Absent(i) => SameAnswer::SecondAbsent(i),
-        Halt::Finished(i) => SameAnswer::SecondFinished(i),
-        Halt::Waiting(i) => SameAnswer::SecondWaiting(i),
+        Halt::At(stop) => SameAnswer::Refused(Refusal::Second(stop)),
     }
 }
 

@@ -1,4 +1,4 @@
--- `order::stepping::judge` meets its contract: schedules of different lengths are different, and of one length the names decide.
+-- `comparison::judge` meets its contract: schedules of different lengths are different, and of one length the names decide.
 -- Assumes nothing.
 use mathlib.Core.Path.{_≡_, refl, _∙_}
 use mathlib.Core.Bool.{true, false}
@@ -8,11 +8,11 @@ use Rattle.trace.specs.Schedule.{accepted}
 use Rattle.model.specs.Site.{initial}
 use Rattle.model.specs.Schedule.{machine, firstNumbers, secondNumbers}
 use Rattle.model.proofs.Checks.{checks-taken}
-use Rattle.order.specs.Traces.{Judged}
-use Rattle.order.proofs.TraceNames.{lengths-apart, comparable, verdict}
-use Rattle.order.proofs.SameOutcomes.{judged}
-use Rattle.order.proofs.stepping.judge.Statement.{statement}
-use Rattle.order.proofs.stepping.judge.Tie as tie
+use Rattle.comparison.specs.Traces.{Judged}
+use Rattle.comparison.proofs.TraceNames.{lengths-apart, comparable, verdict}
+use Rattle.comparison.proofs.SameOutcomes.{judged}
+use Rattle.comparison.proofs.judge.Statement.{statement}
+use Rattle.comparison.proofs.judge.Tie as tie
 
 -- both schedules are accepted
 first-taken : {table first second firstBytes secondBytes : List ℕ} → Judged table first second firstBytes secondBytes → accepted (machine table) initial first ≡ true

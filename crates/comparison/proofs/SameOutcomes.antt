@@ -12,10 +12,10 @@ use Rattle.model.specs.Site.{initial}
 use Rattle.model.specs.Schedule.{machine, firstNumbers, secondNumbers, checkSchedule}
 use Rattle.model.specs.Calls.{Result, gives, refuses, answer, SameVerdict, same as alike, different, sameChecks, sameOf}
 use Rattle.model.proofs.Checks.{then-both, answer-given}
-use Rattle.order.specs.declared.SameAnswer.{SameAnswer}
-use Rattle.order.specs.Answers.{sameResult}
-use Rattle.order.specs.Traces.{Judged, ComparedRight}
-use Rattle.order.proofs.Outcomes.{then-refused, then-accepted}
+use Rattle.answers.specs.declared.SameAnswer.{SameAnswer}
+use Rattle.answers.specs.Answers.{sameResult}
+use Rattle.comparison.specs.Traces.{Judged, ComparedRight}
+use Rattle.table.proofs.Checks.{then-refused, then-accepted}
 
 refusal-gives : {A B : Type 0} {a : A} {n p : ℕ} → gives a ≡ refuses n p → B
 refusal-gives e = let z : _≡_ {A = ℕ} 0 1 = cc in absurd (omega arith)

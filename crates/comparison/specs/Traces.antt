@@ -15,9 +15,9 @@ use Rattle.play.specs.PlayParts.{haltOf}
 use Rattle.play.specs.declared.Halt.{Halt}
 use Rattle.play.specs.declared.Halt.the-variants.{End}
 use Rattle.verdict.specs.Names.{namesIn}
-use Rattle.order.specs.declared.SameAnswer.{SameAnswer}
-use Rattle.order.specs.declared.SameAnswer.the-variants as same
-use Rattle.order.specs.Answers.{sameResult}
+use Rattle.answers.specs.declared.SameAnswer.{SameAnswer}
+use Rattle.answers.specs.declared.SameAnswer.the-variants as same
+use Rattle.answers.specs.Answers.{sameResult}
 
 -- the names of the steps that an accepted schedule runs stand in the first bytes, in their order
 pub record Kept (table schedule bytes : List ℕ) : Type 0 where

@@ -1,0 +1,78 @@
+-- What each answer of the public calls stands for: document 01's refusal with its number and position, and the model's value for each case. The
+-- table reader's own answers are in the table's `Answer`.
+-- Assumes nothing: these are definitions.
+use Prim.Native.Nat.{ℕ}
+use Rattle.table.specs.Outcome.{Outcome, refused, numberOf, positionOf}
+use Rattle.table.specs.Answer.{outcome}
+use Rattle.model.specs.Schedule.{RefusalNumbers, firstNumbers, secondNumbers}
+use Rattle.model.specs.Ready as Model
+use Rattle.model.specs.Calls.{Result, gives, refuses, PairVerdict, independent, dependent, SameVerdict, same, different}
+use Rattle.answers.specs.declared.Stop.{Stop}
+use Rattle.answers.specs.declared.Stop.the-variants.{Absent, Finished, Waiting}
+use Rattle.answers.specs.declared.Refusal.{Refusal}
+use Rattle.answers.specs.declared.Refusal.the-variants as refusal
+use Rattle.answers.specs.declared.Ending.{Ending}
+use Rattle.answers.specs.declared.Ending.the-variants as ending
+use Rattle.answers.specs.declared.Readiness.{Readiness}
+use Rattle.answers.specs.declared.RunAnswer.{RunAnswer}
+use Rattle.answers.specs.declared.RunAnswer.the-variants as run
+use Rattle.answers.specs.declared.ReadyAnswer.{ReadyAnswer}
+use Rattle.answers.specs.declared.ReadyAnswer.the-variants as ready
+use Rattle.answers.specs.declared.PairAnswer.{PairAnswer}
+use Rattle.answers.specs.declared.PairAnswer.the-variants as pair
+use Rattle.answers.specs.declared.SameAnswer.{SameAnswer}
+use Rattle.answers.specs.declared.SameAnswer.the-variants as same-answer
+use Rattle.answers.specs.declared.RouteAnswer.{RouteAnswer}
+use Rattle.answers.specs.declared.RouteAnswer.the-variants as route
+
+-- ---- refusals
+
+-- a schedule that stops at an entry: no such actor, finished, not ready; by the numbers of its place, first or second
+abbrev pub stopOf : RefusalNumbers → Stop → Outcome
+stopOf n (Absent i) = refused (n .absent) i
+stopOf n (Finished i) = refused (n .finished) i
+stopOf n (Waiting i) = refused (n .waiting) i
+
+abbrev pub refusalOf : Refusal → Outcome
+refusalOf (refusal.Table reading) = outcome reading
+refusalOf refusal.ReportRoom = refused 10 0
+refusalOf (refusal.First stop) = stopOf firstNumbers stop
+refusalOf (refusal.Second stop) = stopOf secondNumbers stop
+refusalOf refusal.NoStep = refused 17 0
+refusalOf refusal.RouteRoom = refused 18 0
+refusalOf refusal.Different = refused 19 0
+
+abbrev pub refusing : {A : Type 0} → Refusal → Result A
+refusing r = refuses (numberOf (refusalOf r)) (positionOf (refusalOf r))
+
+-- ---- answers
+
+abbrev pub runResult : RunAnswer → Result ℕ
+runResult (run.Written length) = gives length
+runResult (run.Refused r) = refusing r
+
+abbrev pub endingAs : Ending → Model.Ending
+endingAs ending.Finished = Model.finished
+endingAs ending.Stuck = Model.stuck
+endingAs ending.Going = Model.going
+
+abbrev pub readinessOf : Readiness → Model.ReadyAnswer
+readinessOf r = record { mask = r .mask; count = r .count; ending = endingAs (r .ending) }
+
+abbrev pub readyResult : ReadyAnswer → Result Model.ReadyAnswer
+readyResult (ready.Now r) = gives (readinessOf r)
+readyResult (ready.Refused r) = refusing r
+
+abbrev pub pairResult : PairAnswer → Result PairVerdict
+pairResult pair.Independent = gives independent
+pairResult pair.Dependent = gives dependent
+pairResult (pair.Refused r) = refusing r
+
+abbrev pub sameResult : SameAnswer → Result SameVerdict
+sameResult same-answer.Same = gives same
+sameResult same-answer.Different = gives different
+sameResult (same-answer.Refused r) = refusing r
+
+abbrev pub routeResult : RouteAnswer → Result ℕ
+routeResult (route.Length length) = gives length
+routeResult (route.Refused r) = refusing r

@@ -1,0 +1,2 @@
+-- What each answer stands for.
+pub mod Answers

@@ -1,0 +1,2 @@
+-- What the calls on two schedules know of them.
+pub mod Traces

@@ -1,2 +1,0 @@
--- What each refusal stands for.
-pub mod Numbers
