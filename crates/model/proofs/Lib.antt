@@ -34,5 +34,7 @@ pub mod TableBeginning
 pub mod Beginnings
 pub mod Cases
 pub mod Examples
+pub mod Reports
+pub mod Corners
 pub mod Listings
 pub mod Forecourt

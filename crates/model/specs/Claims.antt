@@ -5,7 +5,7 @@ use mathlib.Core.Path.{_≡_}
 use mathlib.Core.Bool.{Bool, true, false, _&&_, cond}
 use mathlib.Core.List.{List, [], _∷_, map}
 use lib.Dec.{eqb}
-use lib.ListN.{getD, replicate}
+use lib.ListN.{getD, replicate, take}
 use Rattle.table.specs.Outcome.{Outcome}
 use Rattle.table.specs.Read.{readOf}
 use Rattle.trace.specs.Machine.{Machine, Name}
@@ -15,7 +15,8 @@ use Rattle.model.specs.Site.{initial}
 use Rattle.model.specs.Ready.{ReadyAnswer}
 use Rattle.model.specs.Report.{report}
 use Rattle.model.specs.Schedule.{machine, endState}
-use Rattle.model.specs.Calls.{Result, reportRoom, runOf, readyOf, PairVerdict, pairOf, SameVerdict, sameOf}
+use Rattle.model.specs.Calls.{Result, gives, refuses, reportRoom, Ran, runOf, readyOf, PairVerdict, pairOf, SameVerdict, sameOf}
+use Rattle.model.specs.Route.{routeChecks}
 
 -- two lists of numbers are equal
 abbrev pub eqList : List ℕ → List ℕ → Bool
@@ -40,23 +41,37 @@ compareEnds table first second =
     (cond (eqList (report table (endState table first)) (report table (endState table second))) alike apart)
     unaccepted
 
+-- the report that a run leaves: of the lent bytes, as many from the first on as the run answers; none after a refusal
+abbrev pub reportLeft : Result ℕ → (lent : List ℕ) → List ℕ
+reportLeft (gives n) lent = take n lent
+reportLeft (refuses number position) lent = []
+
 pub data Question : Type 0 where
   -- what reading the table gives
   read : (table : List ℕ) → Question
-  -- the result of a run with a report buffer of 2,912 zeros; what a cell of an actor holds after the schedule
-  run : (table schedule : List ℕ) → Question
+  -- the result of a run with a report buffer of so many zeros; the report that a run leaves in 2,912 zeros; what a cell of an actor holds after
+  -- the schedule
+  runIn : (room : ℕ) (table schedule : List ℕ) → Question
+  bytes : (table schedule : List ℕ) → Question
   cell : (table schedule : List ℕ) (actor number : ℕ) → Question
   -- the results of ready, pair and same
   ready : (table schedule : List ℕ) → Question
   pair : (table : List ℕ) (x y : Name) → Question
   areSame : (table first second : List ℕ) → Question
-  -- whether the positions are a route from the first schedule to the second; how the two end
+  -- whether the positions are a route from the first schedule to the second; what the route call's checks give with a buffer of so many entries;
+  -- how the two end
   isRoute : (table positions first second : List ℕ) → Question
+  routeIn : (room : ℕ) (table first second : List ℕ) → Question
   ends : (table first second : List ℕ) → Question
+
+-- the result of a run with a report buffer of 2,912 zeros
+abbrev pub run : (table schedule : List ℕ) → Question
+run table schedule = runIn reportRoom table schedule
 
 pub data Answer : Type 0 where
   outcome : Outcome → Answer
   ran : Result ℕ → Answer
+  written : List ℕ → Answer
   holds : (value : ℕ) → Answer
   readied : Result ReadyAnswer → Answer
   paired : Result PairVerdict → Answer
@@ -67,12 +82,16 @@ pub data Answer : Type 0 where
 -- the model's answer
 abbrev pub ask : Question → Answer
 ask (read table) = outcome (readOf table)
-ask (run table schedule) = ran (runOf table schedule (replicate reportRoom 0) .result)
+ask (runIn room table schedule) = ran (runOf table schedule (replicate room 0) .result)
+ask (bytes table schedule) =
+    let left : Ran = runOf table schedule (replicate reportRoom 0) in
+    written (reportLeft (left .result) (left .lent))
 ask (cell table schedule actor number) = holds (getD (endState table schedule .actor actor .cells) number 0)
 ask (ready table schedule) = readied (readyOf table schedule)
 ask (pair table x y) = paired (pairOf table x y)
 ask (areSame table first second) = judged (sameOf table first second)
 ask (isRoute table positions first second) = routed (isChain (machine table) initial positions first second)
+ask (routeIn room table first second) = outcome (routeChecks table first second (replicate room 0))
 ask (ends table first second) = ended (compareEnds table first second)
 
 -- a claim: the question has this answer

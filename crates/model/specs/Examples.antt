@@ -4,20 +4,23 @@
 -- Assumes nothing: these are definitions.
 use Prim.Native.Nat.{ℕ, _+_, _*_}
 use mathlib.Core.List.{List, [], _∷_, _++_}
-use lib.ListN.{length}
+use lib.ListN.{length, replicate, take}
 use Rattle.model.specs.Site.{name}
-use Rattle.model.specs.Report.{word}
+use Rattle.model.specs.Report.{word, long}
 use Rattle.model.specs.Calls.{gives, refuses, independent, dependent}
 use Rattle.model.specs.Claims.{Claim, _⇒_, run, pair, ends, ran, paired, ended, alike, apart}
 
 -- ---- small tables, written by their actions
 
--- an action of eight bytes: kind, p, q, and what it lists
+-- an action of eight bytes: kind, p and q; a Set of a cell to a value; kind, result cell and the one to four numbers that it lists
 abbrev pub plain : (kind p q : ℕ) → List ℕ
 plain kind p q = kind ∷ p ∷ q ∷ 0 ∷ 0 ∷ 0 ∷ 0 ∷ 0 ∷ []
 
-abbrev pub lists : (kind result number : ℕ) → List ℕ
-lists kind result number = kind ∷ result ∷ 0 ∷ 1 ∷ number ∷ 0 ∷ 0 ∷ 0 ∷ []
+abbrev pub sets : (cell value : ℕ) → List ℕ
+sets cell value = 0 ∷ cell ∷ 0 ∷ 0 ∷ long value
+
+abbrev pub lists : (kind result : ℕ) (numbers : List ℕ) → List ℕ
+lists kind result numbers = kind ∷ result ∷ 0 ∷ length numbers ∷ take 4 (numbers ++ replicate 4 0)
 
 -- every communication here goes through mailbox 0 and cell 0, every lock is of mutex 0, and every test and wait lists number 0 alone, with its
 -- result in cell 1
@@ -28,10 +31,10 @@ abbrev pub receive : List ℕ
 receive = plain 4 0 0
 
 abbrev pub testAny : List ℕ
-testAny = lists 5 1 0
+testAny = lists 5 1 (0 ∷ [])
 
 abbrev pub waitAny : List ℕ
-waitAny = lists 6 1 0
+waitAny = lists 6 1 (0 ∷ [])
 
 abbrev pub lock : List ℕ
 lock = plain 7 0 0
@@ -40,10 +43,10 @@ abbrev pub unlock : List ℕ
 unlock = plain 8 0 0
 
 abbrev pub mutexTest : List ℕ
-mutexTest = lists 9 1 0
+mutexTest = lists 9 1 (0 ∷ [])
 
 abbrev pub mutexWait : List ℕ
-mutexWait = lists 10 1 0
+mutexWait = lists 10 1 (0 ∷ [])
 
 abbrev pub joined : List (List ℕ) → List ℕ
 joined [] = []
@@ -58,9 +61,13 @@ abbrev pub bodies : List (List (List ℕ)) → List ℕ
 bodies [] = []
 bodies (x ∷ l) = joined x ++ bodies l
 
--- the table of these actors, with one mailbox and one mutex
+-- the table of these actors, with so many mailboxes and mutexes; and with one of each
+abbrev pub siteOf : (mailboxes mutexes : ℕ) → List (List (List ℕ)) → List ℕ
+siteOf mailboxes mutexes actors =
+    (1 ∷ length actors ∷ mailboxes ∷ mutexes ∷ []) ++ (directory (4 + 4 * length actors) actors ++ bodies actors)
+
 abbrev pub site : List (List (List ℕ)) → List ℕ
-site actors = (1 ∷ length actors ∷ 1 ∷ 1 ∷ []) ++ (directory (4 + 4 * length actors) actors ++ bodies actors)
+site actors = siteOf 1 1 actors
 
 -- two actors
 abbrev pub two : (first second : List (List ℕ)) → List ℕ

@@ -21,5 +21,7 @@ pub mod Bound
 pub mod Claims
 pub mod Cases
 pub mod Examples
+pub mod Reports
+pub mod Corners
 pub mod Listings
 pub mod Forecourt
