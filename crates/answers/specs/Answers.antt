@@ -42,14 +42,14 @@ refusalOf refusal.NoStep = refused 17 0
 refusalOf refusal.RouteRoom = refused 18 0
 refusalOf refusal.Different = refused 19 0
 
-abbrev pub refusing : {A : Type 0} → Refusal → Result A
-refusing r = refuses (numberOf (refusalOf r)) (positionOf (refusalOf r))
+abbrev pub refusedBy : {A : Type 0} → Refusal → Result A
+refusedBy r = refuses (numberOf (refusalOf r)) (positionOf (refusalOf r))
 
 -- ---- answers
 
 abbrev pub runResult : RunAnswer → Result ℕ
 runResult (run.Written length) = gives length
-runResult (run.Refused r) = refusing r
+runResult (run.Refused r) = refusedBy r
 
 abbrev pub endingAs : Ending → Model.Ending
 endingAs ending.Finished = Model.finished
@@ -61,18 +61,18 @@ readinessOf r = record { mask = r .mask; count = r .count; ending = endingAs (r 
 
 abbrev pub readyResult : ReadyAnswer → Result Model.ReadyAnswer
 readyResult (ready.Now r) = gives (readinessOf r)
-readyResult (ready.Refused r) = refusing r
+readyResult (ready.Refused r) = refusedBy r
 
 abbrev pub pairResult : PairAnswer → Result PairVerdict
 pairResult pair.Independent = gives independent
 pairResult pair.Dependent = gives dependent
-pairResult (pair.Refused r) = refusing r
+pairResult (pair.Refused r) = refusedBy r
 
 abbrev pub sameResult : SameAnswer → Result SameVerdict
 sameResult same-answer.Same = gives same
 sameResult same-answer.Different = gives different
-sameResult (same-answer.Refused r) = refusing r
+sameResult (same-answer.Refused r) = refusedBy r
 
 abbrev pub routeResult : RouteAnswer → Result ℕ
 routeResult (route.Length length) = gives length
-routeResult (route.Refused r) = refusing r
+routeResult (route.Refused r) = refusedBy r

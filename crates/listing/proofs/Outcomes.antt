@@ -26,7 +26,8 @@ use Rattle.writing.specs.Written.{Wrote}
 use Rattle.play.specs.declared.Played.{Played}
 use Rattle.answers.specs.declared.Readiness.{Readiness}
 use Rattle.listing.specs.declared.Listing.{Listing}
-use Rattle.listing.specs.Laid.{Laid, firstSteps}
+use Rattle.listing.specs.Laid.{Laid}
+use Rattle.listing.specs.FirstSteps.{firstSteps}
 
 -- ---- checks in order
 

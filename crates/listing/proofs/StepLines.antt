@@ -12,7 +12,7 @@ use Rattle.model.specs.Listing.{line, stepText, stepLines}
 use Rattle.names.specs.InByte.{nameOf}
 use Rattle.writing.specs.Written.{Wrote}
 use Rattle.writing.proofs.Written.{rest, joined, written-length, wrote-then}
-use Rattle.listing.specs.Laid.{firstSteps}
+use Rattle.listing.specs.FirstSteps.{firstSteps}
 use Rattle.listing.proofs.Writing.{wrote-at, wrote-room}
 
 -- one line more, at the end

@@ -1,2 +1,3 @@
 -- What a listing that was laid out holds. The listing itself is the model's `listingOf`.
 pub mod Laid
+pub mod FirstSteps

@@ -66,8 +66,6 @@ fn write(table: &[u8], schedule: &[u8], out: &mut [u8]) -> usize
             let ending = readiness.ending;
             lines::run(&names, schedule.len(), ending, out)
         }
-        Halt::Absent(i) => lines::refused(11, i, out),
-        Halt::Finished(i) => lines::refused(12, i, out),
-        Halt::Waiting(i) => lines::refused(13, i, out),
+        Halt::At(stop) => lines::refused(stop.first_number(), stop.position(), out),
     }
 }

@@ -7,9 +7,9 @@ ghost use Rattle.model.specs.Listing.{line, endText, refusedText, stepText};
 ghost use Rattle.names.specs.InByte.{nameOf};
 ghost use Rattle.answers.specs.Answers.{endingAs};
 ghost use Rattle.writing.specs.Written.{Wrote};
-ghost use Rattle.listing.specs.Laid.{firstSteps};
+ghost use Rattle.listing.specs.FirstSteps.{firstSteps};
 use crate::text;
-use readiness::Ending;
+use answers::Ending;
 
 // The only line of a refused run.
 pub fn refused(number: u32, position: u32, buf: &mut [u8]) -> usize

@@ -23,10 +23,10 @@ use Rattle.model.proofs.Demand3.{site-theorems}
 
 module _ (table first second before : List ℕ) where
   -- the buffer with the route in front
-  abbrev written : List ℕ → List ℕ
+  abbrev pub written : List ℕ → List ℕ
   written r = r ++ drop (length r) before
 
-  route-written : routeChecks table first second before ≡ accepted
+  pub route-written : routeChecks table first second before ≡ accepted
       → RouteWritten table first second before (written (route (machine table) initial first second)) (length (route (machine table) initial first second))
   route-written h =
       let r : List ℕ = route (machine table) initial first second in

@@ -9,15 +9,13 @@ use native.Mathlib.Omega.{arith}
 use native.Mathlib.Nat.{mul-le-mul}
 use borrow.Author.Tests.{lt-leb, le-leb}
 use lib.Dec.{leb}
-use lib.ListN.{length, drop, length-append, length-drop}
-use lib.Seq.{take-append-seam, drop-append-seam}
+use lib.ListN.{length, drop}
 use Rattle.table.specs.Outcome.{Outcome, accepted, refused, demand, _⨾_}
 use Rattle.table.specs.Read.{readOf}
 use Rattle.table.proofs.Checks.{then-left, then-right, then-refused, then-accepted}
 use Rattle.trace.specs.Same.{equivalent}
 use Rattle.trace.specs.Schedule.{accepted as taken}
 use Rattle.trace.specs.Route.{route}
-use Rattle.trace.specs.Theorems.{ShortestRoute}
 use Rattle.trace.proofs.Verdict.{same-parts}
 use Rattle.model.specs.Site.{initial}
 use Rattle.model.specs.Schedule.{machine, firstNumbers, secondNumbers, checkSchedule}
@@ -25,6 +23,7 @@ use Rattle.model.specs.Calls.{Result, gives, refuses, answer, SameVerdict, same
 use Rattle.model.specs.Route.{mostExchanges, routeChecks, RouteWritten, RightAnswer, RightRoute}
 use Rattle.model.proofs.Checks.{checks-taken, given-accepted, gives-injective, answer-given}
 use Rattle.model.proofs.Demand3.{site-theorems}
+use Rattle.model.proofs.Routes.{route-written}
 
 -- a refused answer is the checks' refusal
 refused-checks : {A : Type 0} (o : Outcome) (a : A) (n p : ℕ) → answer o a ≡ refuses n p → o ≡ refused n p
@@ -125,23 +124,11 @@ module _ (table first second : List ℕ) where
       → after ≡ route (machine table) initial first second ++ drop (length (route (machine table) initial first second)) before
       → RightRoute table first second before after (gives n)
   route-given before after n h room count lent =
-      right table first second before after accepted (gives n)
-      (room-checks before h ∙ ap (λ (b : Bool). demand b 18 0) (le-leb (mostExchanges (length first)) (length before) room))
-      (length r, ap gives count, subst (λ (a : List ℕ). RouteWritten table first second before a (length r)) (sym lent) written)
+      right table first second before after accepted (gives n) checks
+      (length r, ap gives count, subst (λ (a : List ℕ). RouteWritten table first second before a (length r)) (sym lent) (route-written table first second before checks))
     where
       r : List ℕ
       r = route (machine table) initial first second
 
-      found : ShortestRoute (machine table) initial first second
-      found = site-theorems table .shortest-route first second (first-taken alike h) (second-taken alike h) (are-same h)
-
-      written : RouteWritten table first second before (r ++ drop (length r) before) (length r)
-      written =
-          let most : length r ≤ mostExchanges (length first) = found .length-bound in
-          record {
-            bounded = most;
-            size = length-append r (drop (length r) before) ∙ omega (arith, length-drop (length r) before);
-            chain = rw (take-append-seam r (drop (length r) before)) (found .chain);
-            replays = rw (take-append-seam r (drop (length r) before)) (found .replays);
-            kept = drop-append-seam r (drop (length r) before);
-          }
+      checks : routeChecks table first second before ≡ accepted
+      checks = room-checks before h ∙ ap (λ (b : Bool). demand b 18 0) (le-leb (mostExchanges (length first)) (length before) room)

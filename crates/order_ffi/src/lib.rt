@@ -2,17 +2,17 @@
 ghost use mathlib.Core.Path.{_≡_};
 ghost use Rattle.table.specs.Outcome.{numberOf, positionOf};
 ghost use Rattle.table.specs.Read.{readOf};
-ghost use Rattle.order_ffi.specs.Fields.{runFields, readyFields, endingNumber, pairFields, sameFields, routeFields, RightFields};
 ghost use Rattle.model.specs.Site.{name};
-ghost use Rattle.model.specs.Calls.{gives, refuses, runOf, readyOf, pairOf, sameOf};
+ghost use Rattle.model.specs.Calls.{gives, runOf, readyOf, pairOf, sameOf};
 ghost use Rattle.answers.specs.Answers.{readinessOf, endingAs};
-use order::PairAnswer;
-use order::ReadyAnswer;
-use order::RouteAnswer;
-use order::RunAnswer;
-use order::SameAnswer;
-use readiness::Ending;
-use readiness::Readiness;
+ghost use Rattle.order_ffi.specs.Fields.{runFields, readyFields, endingNumber, pairFields, sameFields, RightFields};
+use answers::Ending;
+use answers::PairAnswer;
+use answers::Readiness;
+use answers::ReadyAnswer;
+use answers::RouteAnswer;
+use answers::RunAnswer;
+use answers::SameAnswer;
 
 // The refusal's number and position; 0 and 0 where the table is accepted.
 #[repr(C)]
@@ -54,29 +54,9 @@ pub extern "C" fn order_run(table: &[u8], schedule: &[u8], report: &mut [u8]) ->
             position: 0,
             length: n,
         },
-        RunAnswer::SmallBuffer => OrderRun {
-            refusal: 10,
-            position: 0,
-            length: 0,
-        },
-        RunAnswer::Table(r) => OrderRun {
+        RunAnswer::Refused(r) => OrderRun {
             refusal: r.number(),
             position: r.position(),
-            length: 0,
-        },
-        RunAnswer::Absent(i) => OrderRun {
-            refusal: 11,
-            position: i,
-            length: 0,
-        },
-        RunAnswer::Finished(i) => OrderRun {
-            refusal: 12,
-            position: i,
-            length: 0,
-        },
-        RunAnswer::Waiting(i) => OrderRun {
-            refusal: 13,
-            position: i,
             length: 0,
         },
     }
@@ -100,10 +80,13 @@ pub extern "C" fn order_ready(table: &[u8], schedule: &[u8]) -> OrderReady
     let answer = order::ready(table, schedule);
     match answer {
         ReadyAnswer::Now(now) => readiness(now),
-        ReadyAnswer::Table(r) => no_answer(r.number(), r.position()),
-        ReadyAnswer::Absent(i) => no_answer(11, i),
-        ReadyAnswer::Finished(i) => no_answer(12, i),
-        ReadyAnswer::Waiting(i) => no_answer(13, i),
+        ReadyAnswer::Refused(r) => OrderReady {
+            refusal: r.number(),
+            position: r.position(),
+            mask: 0,
+            count: 0,
+            ending: 0,
+        },
     }
 }
 
@@ -127,18 +110,6 @@ fn number_of(ending: Ending) -> u32
         Ending::Finished => 0,
         Ending::Stuck => 1,
         Ending::Going => 2,
-    }
-}
-
-fn no_answer(number: u32, position: u32) -> OrderReady
-    ensures { λ r. ⌜ r ≡ readyFields (refuses number position) ⌝ }
-{
-    OrderReady {
-        refusal: number,
-        position,
-        mask: 0,
-        count: 0,
-        ending: 0,
     }
 }
 
@@ -173,14 +144,9 @@ pub extern "C" fn order_pair(
             position: 0,
             verdict: 1,
         },
-        PairAnswer::Table(r) => OrderPair {
+        PairAnswer::Refused(r) => OrderPair {
             refusal: r.number(),
             position: r.position(),
-            verdict: 0,
-        },
-        PairAnswer::NoStep => OrderPair {
-            refusal: 17,
-            position: 0,
             verdict: 0,
         },
     }
@@ -211,23 +177,11 @@ pub extern "C" fn order_same(table: &[u8], first: &[u8], second: &[u8]) -> Order
             position: 0,
             verdict: 0,
         },
-        SameAnswer::Table(r) => no_verdict(r.number(), r.position()),
-        SameAnswer::Absent(i) => no_verdict(11, i),
-        SameAnswer::Finished(i) => no_verdict(12, i),
-        SameAnswer::Waiting(i) => no_verdict(13, i),
-        SameAnswer::SecondAbsent(i) => no_verdict(14, i),
-        SameAnswer::SecondFinished(i) => no_verdict(15, i),
-        SameAnswer::SecondWaiting(i) => no_verdict(16, i),
-    }
-}
-
-fn no_verdict(number: u32, position: u32) -> OrderSame
-    ensures { λ r. ⌜ r ≡ sameFields (refuses number position) ⌝ }
-{
-    OrderSame {
-        refusal: number,
-        position,
-        verdict: 0,
+        SameAnswer::Refused(r) => OrderSame {
+            refusal: r.number(),
+            position: r.position(),
+            verdict: 0,
+        },
     }
 }
 
@@ -256,24 +210,10 @@ pub extern "C" fn order_route(
             position: 0,
             length: n,
         },
-        RouteAnswer::SmallBuffer => no_route(18, 0),
-        RouteAnswer::Different => no_route(19, 0),
-        RouteAnswer::Table(r) => no_route(r.number(), r.position()),
-        RouteAnswer::Absent(i) => no_route(11, i),
-        RouteAnswer::Finished(i) => no_route(12, i),
-        RouteAnswer::Waiting(i) => no_route(13, i),
-        RouteAnswer::SecondAbsent(i) => no_route(14, i),
-        RouteAnswer::SecondFinished(i) => no_route(15, i),
-        RouteAnswer::SecondWaiting(i) => no_route(16, i),
-    }
-}
-
-fn no_route(number: u32, position: u32) -> OrderRoute
-    ensures { λ r. ⌜ r ≡ routeFields (refuses number position) ⌝ }
-{
-    OrderRoute {
-        refusal: number,
-        position,
-        length: 0,
+        RouteAnswer::Refused(r) => OrderRoute {
+            refusal: r.number(),
+            position: r.position(),
+            length: 0,
+        },
     }
 }

@@ -8,6 +8,7 @@ use Rattle.table.proofs.Readings.{refusing}
 use Rattle.model.specs.Schedule.{firstNumbers}
 use Rattle.play.specs.PlayParts.{haltOf}
 use Rattle.table.proofs.Checks.{then-refused}
+use Rattle.answers.proofs.Stops.{stop-refused}
 use Rattle.comparison.proofs.SameOutcomes.{compared-refused, first-refused}
 use borrow.Author.Needs.{needs}
 use Rattle.comparison.proofs.compared.Statement.{statement}
@@ -51,7 +52,7 @@ returns-2 c = search needs
 returns-3 : tie.Need-returns-3
 returns-3 c =
     first-refused refl (sym (c .before .before .before .before .before .before .before .read .ensures .0) ∙ ap outcome (c .before .before .before .before .before .enum-told .given .1))
-    (sym (c .before .before .before .trace-of .ensures .halted firstNumbers) ∙ ap (haltOf firstNumbers) (c .before .halt .given .1))
+    (sym (c .before .before .before .trace-of .ensures .halted firstNumbers) ∙ ap (haltOf firstNumbers) (c .before .halt .given .1) ∙ stop-refused firstNumbers (c .before .halt .given .0 .0))
 
 pub compared-spec : {M : Type 1} → statement M
 compared-spec =

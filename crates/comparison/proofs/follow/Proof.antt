@@ -3,6 +3,7 @@
 use mathlib.Core.Path.{_≡_, refl, _∙_, ap, sym}
 use Rattle.model.specs.Schedule.{secondNumbers}
 use Rattle.play.specs.PlayParts.{haltOf}
+use Rattle.answers.proofs.Stops.{stop-refused}
 use Rattle.comparison.proofs.SameOutcomes.{second-refused}
 use borrow.Author.Needs.{needs}
 use Rattle.comparison.proofs.follow.Statement.{statement}
@@ -38,7 +39,7 @@ returns-2 : tie.Need-returns-2
 returns-2 c =
     let J = c .before .before .before .before .before .before .before .before .pre in
     second-refused refl (J .read) (J .first-fine)
-    (sym (c .before .before .before .trace-of .ensures .halted secondNumbers) ∙ ap (haltOf secondNumbers) (c .before .halt .given .1))
+    (sym (c .before .before .before .trace-of .ensures .halted secondNumbers) ∙ ap (haltOf secondNumbers) (c .before .halt .given .1) ∙ stop-refused secondNumbers (c .before .halt .given .0 .0))
 
 pub follow-spec : {M : Type 1} → statement M
 follow-spec =

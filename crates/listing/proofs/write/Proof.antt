@@ -7,6 +7,7 @@ use Rattle.model.specs.Schedule.{firstNumbers, checkSchedule}
 use Rattle.table.proofs.Readings.{refusing}
 use Rattle.table.specs.Answer.{outcome}
 use Rattle.table.specs.Read.{readOf}
+use Rattle.answers.proofs.Stops.{stop-refused}
 use borrow.Author.Needs.{needs}
 use mathlib.Core.Path.{refl, _∙_, ap, sym}
 use Rattle.listing.proofs.write.Statement.{statement}
@@ -68,20 +69,14 @@ run-requires c κs =
 enum-known-halt : tie.Need-enum-known-halt
 enum-known-halt c = search needs
 
+first-number-requires : tie.Need-first-number-requires
+first-number-requires c κs = search needs
+
+position-requires-2 : tie.Need-position-requires-2
+position-requires-2 c κs = search needs
+
 refused-requires-2 : tie.Need-refused-requires-2
 refused-requires-2 c κs = search needs
-
-enum-known-halt-2 : tie.Need-enum-known-halt-2
-enum-known-halt-2 c = search needs
-
-refused-requires-3 : tie.Need-refused-requires-3
-refused-requires-3 c κs = search needs
-
-enum-known-halt-3 : tie.Need-enum-known-halt-3
-enum-known-halt-3 c = search needs
-
-refused-requires-4 : tie.Need-refused-requires-4
-refused-requires-4 c κs = search needs
 
 same-length-2 : tie.Need-same-length-2
 same-length-2 c = search needs
@@ -105,36 +100,13 @@ same-length-3 c = search needs
 
 returns-3 : tie.Need-returns-3
 returns-3 c =
-    let s = c .before .before .before .before .before .before .before .before .before .before .before .before .before .before .before .before .before .before .before .before .before in
-    let p = c .before .before .before .before .before .before .before .play in
+    let s = c .before .before .before .before .before .before .before .before .before .before .before .before .before .before .before .before .before .before .before .before .before .before .before in
+    let p = c .before .before .before .before .before .before .before .before .before .play in
     let w = c .before .before .refused2 in
-    wrote-refusal (s .args .table .now) (s .args .schedule .now) (s .args .out .now) (w .last .1 .1 .0) (w .result) 11 _
-    (then-accepted (readOf (s .args .table .now)) (checkSchedule firstNumbers (s .args .table .now) (s .args .schedule .now)) (sym (c .before .before .before .before .before .before .before .before .before .before .before .before .before .before .before .before .before .read .ensures .0) ∙ ap outcome (c .before .before .before .before .before .before .before .before .before .before .before .before .before .before .before .enum-told .given .1)) (sym (p .ensures .halted firstNumbers) ∙ ap (haltOf firstNumbers) (c .before .before .before .before .before .halt .given .1)))
-    refl refl (w .ensures)
-
-same-length-4 : tie.Need-same-length-4
-same-length-4 c = search needs
-
-returns-4 : tie.Need-returns-4
-returns-4 c =
-    let s = c .before .before .before .before .before .before .before .before .before .before .before .before .before .before .before .before .before .before .before .before .before in
-    let p = c .before .before .before .before .before .before .before .play in
-    let w = c .before .before .refused3 in
-    wrote-refusal (s .args .table .now) (s .args .schedule .now) (s .args .out .now) (w .last .1 .1 .0) (w .result) 12 _
-    (then-accepted (readOf (s .args .table .now)) (checkSchedule firstNumbers (s .args .table .now) (s .args .schedule .now)) (sym (c .before .before .before .before .before .before .before .before .before .before .before .before .before .before .before .before .before .read .ensures .0) ∙ ap outcome (c .before .before .before .before .before .before .before .before .before .before .before .before .before .before .before .enum-told .given .1)) (sym (p .ensures .halted firstNumbers) ∙ ap (haltOf firstNumbers) (c .before .before .before .before .before .halt2 .given .1)))
-    refl refl (w .ensures)
-
-same-length-5 : tie.Need-same-length-5
-same-length-5 c = search needs
-
-returns-5 : tie.Need-returns-5
-returns-5 c =
-    let s = c .before .before .before .before .before .before .before .before .before .before .before .before .before .before .before .before .before .before .before .before .before in
-    let p = c .before .before .before .before .before .before .before .play in
-    let w = c .before .before .refused4 in
-    wrote-refusal (s .args .table .now) (s .args .schedule .now) (s .args .out .now) (w .last .1 .1 .0) (w .result) 13 _
-    (then-accepted (readOf (s .args .table .now)) (checkSchedule firstNumbers (s .args .table .now) (s .args .schedule .now)) (sym (c .before .before .before .before .before .before .before .before .before .before .before .before .before .before .before .before .before .read .ensures .0) ∙ ap outcome (c .before .before .before .before .before .before .before .before .before .before .before .before .before .before .before .enum-told .given .1)) (sym (p .ensures .halted firstNumbers) ∙ ap (haltOf firstNumbers) (c .before .before .before .before .before .halt3 .given .1)))
-    refl refl (w .ensures)
+    let stop = c .before .before .before .before .before .before .before .halt .given .0 .0 in
+    wrote-refusal (s .args .table .now) (s .args .schedule .now) (s .args .out .now) (w .last .1 .1 .0) (w .result) (c .before .before .before .before .before .first-number .result) (c .before .before .before .before .position2 .result)
+    (then-accepted (readOf (s .args .table .now)) (checkSchedule firstNumbers (s .args .table .now) (s .args .schedule .now)) (sym (c .before .before .before .before .before .before .before .before .before .before .before .before .before .before .before .before .before .before .before .read .ensures .0) ∙ ap outcome (c .before .before .before .before .before .before .before .before .before .before .before .before .before .before .before .before .before .enum-told .given .1)) (sym (p .ensures .halted firstNumbers) ∙ ap (haltOf firstNumbers) (c .before .before .before .before .before .before .before .halt .given .1) ∙ stop-refused firstNumbers stop))
+    (c .before .before .before .before .before .first-number .ensures) (c .before .before .before .before .position2 .ensures .0) (w .ensures)
 
 pub write-spec : {M : Type 1} → statement M
 write-spec =
@@ -152,16 +124,10 @@ write-spec =
     answer-requires
     run-requires
     enum-known-halt
+    first-number-requires
+    position-requires-2
     refused-requires-2
-    enum-known-halt-2
-    refused-requires-3
-    enum-known-halt-3
-    refused-requires-4
     same-length-2
     returns-2
     same-length-3
-    returns-3
-    same-length-4
-    returns-4
-    same-length-5
-    returns-5)
+    returns-3)

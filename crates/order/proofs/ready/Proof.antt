@@ -9,6 +9,7 @@ use Rattle.model.specs.Schedule.{firstNumbers, checkSchedule}
 use Rattle.play.specs.PlayParts.{haltOf}
 use Rattle.table.proofs.Checks.{then-refused, then-accepted}
 use Rattle.order.proofs.Outcomes.{ready-refused, ready-given, answerable}
+use Rattle.answers.proofs.Stops.{stop-refused}
 use borrow.Author.Needs.{needs}
 use Rattle.order.proofs.ready.Statement.{statement}
 use Rattle.order.proofs.ready.Tie as tie
@@ -46,12 +47,6 @@ answer-requires c κs =
 enum-known-halt : tie.Need-enum-known-halt
 enum-known-halt c = search needs
 
-enum-known-halt-2 : tie.Need-enum-known-halt-2
-enum-known-halt-2 c = search needs
-
-enum-known-halt-3 : tie.Need-enum-known-halt-3
-enum-known-halt-3 c = search needs
-
 returns-2 : tie.Need-returns-2
 returns-2 c =
     ready-given (c .before .before .before .before .before .before .before .before .before .before .before .before .before .before .before .before .before .before .before .before .args .table .now) (c .before .before .before .before .before .before .before .before .before .before .before .before .before .before .before .before .before .before .before .before .args .schedule .now) _ _ ((c .before .before .before .before .before .before .before .play .ensures .ended (c .before .before .before .before .before .enum-told2 .given .1)) .site) (then-accepted (readOf (c .before .before .before .before .before .before .before .before .before .before .before .before .before .before .before .before .before .before .before .before .args .table .now)) (checkSchedule firstNumbers (c .before .before .before .before .before .before .before .before .before .before .before .before .before .before .before .before .before .before .before .before .args .table .now) (c .before .before .before .before .before .before .before .before .before .before .before .before .before .before .before .before .before .before .before .before .args .schedule .now)) (sym (c .before .before .before .before .before .before .before .before .before .before .before .before .before .before .before .before .before .read .ensures .0) ∙ ap outcome (c .before .before .before .before .before .before .before .before .before .before .before .before .before .before .before .enum-told .given .1)) ∙ (sym (c .before .before .before .before .before .before .before .play .ensures .halted firstNumbers) ∙ ap (haltOf firstNumbers) (c .before .before .before .before .before .enum-told2 .given .1)))
@@ -59,15 +54,7 @@ returns-2 c =
 
 returns-3 : tie.Need-returns-3
 returns-3 c =
-    ready-refused (c .before .before .before .before .before .before .before .before .before .before .before .before .before .before .before .before .args .table .now) (c .before .before .before .before .before .before .before .before .before .before .before .before .before .before .before .before .args .schedule .now) _ _ (then-accepted (readOf (c .before .before .before .before .before .before .before .before .before .before .before .before .before .before .before .before .args .table .now)) (checkSchedule firstNumbers (c .before .before .before .before .before .before .before .before .before .before .before .before .before .before .before .before .args .table .now) (c .before .before .before .before .before .before .before .before .before .before .before .before .before .before .before .before .args .schedule .now)) (sym (c .before .before .before .before .before .before .before .before .before .before .before .before .before .read .ensures .0) ∙ ap outcome (c .before .before .before .before .before .before .before .before .before .before .before .enum-told .given .1)) ∙ (sym (c .before .before .before .play .ensures .halted firstNumbers) ∙ ap (haltOf firstNumbers) (c .before .halt .given .1)))
-
-returns-4 : tie.Need-returns-4
-returns-4 c =
-    ready-refused (c .before .before .before .before .before .before .before .before .before .before .before .before .before .before .before .before .args .table .now) (c .before .before .before .before .before .before .before .before .before .before .before .before .before .before .before .before .args .schedule .now) _ _ (then-accepted (readOf (c .before .before .before .before .before .before .before .before .before .before .before .before .before .before .before .before .args .table .now)) (checkSchedule firstNumbers (c .before .before .before .before .before .before .before .before .before .before .before .before .before .before .before .before .args .table .now) (c .before .before .before .before .before .before .before .before .before .before .before .before .before .before .before .before .args .schedule .now)) (sym (c .before .before .before .before .before .before .before .before .before .before .before .before .before .read .ensures .0) ∙ ap outcome (c .before .before .before .before .before .before .before .before .before .before .before .enum-told .given .1)) ∙ (sym (c .before .before .before .play .ensures .halted firstNumbers) ∙ ap (haltOf firstNumbers) (c .before .halt2 .given .1)))
-
-returns-5 : tie.Need-returns-5
-returns-5 c =
-    ready-refused (c .before .before .before .before .before .before .before .before .before .before .before .before .before .before .before .before .args .table .now) (c .before .before .before .before .before .before .before .before .before .before .before .before .before .before .before .before .args .schedule .now) _ _ (then-accepted (readOf (c .before .before .before .before .before .before .before .before .before .before .before .before .before .before .before .before .args .table .now)) (checkSchedule firstNumbers (c .before .before .before .before .before .before .before .before .before .before .before .before .before .before .before .before .args .table .now) (c .before .before .before .before .before .before .before .before .before .before .before .before .before .before .before .before .args .schedule .now)) (sym (c .before .before .before .before .before .before .before .before .before .before .before .before .before .read .ensures .0) ∙ ap outcome (c .before .before .before .before .before .before .before .before .before .before .before .enum-told .given .1)) ∙ (sym (c .before .before .before .play .ensures .halted firstNumbers) ∙ ap (haltOf firstNumbers) (c .before .halt3 .given .1)))
+    ready-refused (c .before .before .before .before .before .before .before .before .before .before .before .before .before .before .before .before .args .table .now) (c .before .before .before .before .before .before .before .before .before .before .before .before .before .before .before .before .args .schedule .now) _ _ (then-accepted (readOf (c .before .before .before .before .before .before .before .before .before .before .before .before .before .before .before .before .args .table .now)) (checkSchedule firstNumbers (c .before .before .before .before .before .before .before .before .before .before .before .before .before .before .before .before .args .table .now) (c .before .before .before .before .before .before .before .before .before .before .before .before .before .before .before .before .args .schedule .now)) (sym (c .before .before .before .before .before .before .before .before .before .before .before .before .before .read .ensures .0) ∙ ap outcome (c .before .before .before .before .before .before .before .before .before .before .before .enum-told .given .1)) ∙ (sym (c .before .before .before .play .ensures .halted firstNumbers) ∙ ap (haltOf firstNumbers) (c .before .halt .given .1) ∙ stop-refused firstNumbers (c .before .halt .given .0 .0)))
 
 pub ready-spec : {M : Type 1} → statement M
 ready-spec =
@@ -80,9 +67,5 @@ ready-spec =
     enum-told-2
     answer-requires
     enum-known-halt
-    enum-known-halt-2
-    enum-known-halt-3
     returns-2
-    returns-3
-    returns-4
-    returns-5)
+    returns-3)

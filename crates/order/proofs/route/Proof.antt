@@ -36,8 +36,8 @@ route-requires c κs =
     let k = t .ensures .kept told in
     routable (s .args .table .now) (s .args .first .now) (s .args .second .now) (t .last .1 .1 .1 .0) (t .last .1 .1 .1 .1 .0) (first-taken (s .args .table .now) (s .args .first .now) (s .args .second .now) alike h) (second-taken (s .args .table .now) (s .args .first .now) (s .args .second .now) alike h) (k .0) (k .1) (one-length (s .args .table .now) (s .args .first .now) (s .args .second .now) h) (s .args .route .now) (are-same (s .args .table .now) (s .args .first .now) (s .args .second .now) h) (subst (λ (n : ℕ). n ≤ length (s .args .route .now)) (c .before .before .before .before .most-exchanges .ensures) (c .before .before .before .if1 .left))
 
-cast-t27 : tie.Need-cast-t27
-cast-t27 c =
+cast-t22 : tie.Need-cast-t22
+cast-t22 c =
     let s = c .before .before .before .before .before .before .before .before .before .before .before .before .before .before .before .before .before in
     let told = c .before .before .before .before .before .before .before .before .enum-told .given .1 in
     let t = c .before .before .before .before .before .before .before .before .before .before .compared in
@@ -50,24 +50,6 @@ enum-told-2 c = search needs
 
 enum-known-answer : tie.Need-enum-known-answer
 enum-known-answer c = search needs
-
-enum-known-answer-2 : tie.Need-enum-known-answer-2
-enum-known-answer-2 c = search needs
-
-enum-known-answer-3 : tie.Need-enum-known-answer-3
-enum-known-answer-3 c = search needs
-
-enum-known-answer-4 : tie.Need-enum-known-answer-4
-enum-known-answer-4 c = search needs
-
-enum-known-answer-5 : tie.Need-enum-known-answer-5
-enum-known-answer-5 c = search needs
-
-enum-known-answer-6 : tie.Need-enum-known-answer-6
-enum-known-answer-6 c = search needs
-
-enum-known-answer-7 : tie.Need-enum-known-answer-7
-enum-known-answer-7 c = search needs
 
 same-length : tie.Need-same-length
 same-length c = search needs
@@ -91,30 +73,6 @@ returns-4 : tie.Need-returns-4
 returns-4 c =
     route-refused (c .before .before .before .before .before .before .before .before .before .before .args .table .now) (c .before .before .before .before .before .before .before .before .before .before .args .first .now) (c .before .before .before .before .before .before .before .before .before .before .args .second .now) (c .before .before .before .before .before .before .before .before .before .before .args .route .now) (sym (ap sameResult (c .before .answer .given .1)) ∙ c .before .before .before .compared .ensures .right)
 
-returns-5 : tie.Need-returns-5
-returns-5 c =
-    route-refused (c .before .before .before .before .before .before .before .before .before .before .args .table .now) (c .before .before .before .before .before .before .before .before .before .before .args .first .now) (c .before .before .before .before .before .before .before .before .before .before .args .second .now) (c .before .before .before .before .before .before .before .before .before .before .args .route .now) (sym (ap sameResult (c .before .answer2 .given .1)) ∙ c .before .before .before .compared .ensures .right)
-
-returns-6 : tie.Need-returns-6
-returns-6 c =
-    route-refused (c .before .before .before .before .before .before .before .before .before .before .args .table .now) (c .before .before .before .before .before .before .before .before .before .before .args .first .now) (c .before .before .before .before .before .before .before .before .before .before .args .second .now) (c .before .before .before .before .before .before .before .before .before .before .args .route .now) (sym (ap sameResult (c .before .answer3 .given .1)) ∙ c .before .before .before .compared .ensures .right)
-
-returns-7 : tie.Need-returns-7
-returns-7 c =
-    route-refused (c .before .before .before .before .before .before .before .before .before .before .args .table .now) (c .before .before .before .before .before .before .before .before .before .before .args .first .now) (c .before .before .before .before .before .before .before .before .before .before .args .second .now) (c .before .before .before .before .before .before .before .before .before .before .args .route .now) (sym (ap sameResult (c .before .answer4 .given .1)) ∙ c .before .before .before .compared .ensures .right)
-
-returns-8 : tie.Need-returns-8
-returns-8 c =
-    route-refused (c .before .before .before .before .before .before .before .before .before .before .args .table .now) (c .before .before .before .before .before .before .before .before .before .before .args .first .now) (c .before .before .before .before .before .before .before .before .before .before .args .second .now) (c .before .before .before .before .before .before .before .before .before .before .args .route .now) (sym (ap sameResult (c .before .answer5 .given .1)) ∙ c .before .before .before .compared .ensures .right)
-
-returns-9 : tie.Need-returns-9
-returns-9 c =
-    route-refused (c .before .before .before .before .before .before .before .before .before .before .args .table .now) (c .before .before .before .before .before .before .before .before .before .before .args .first .now) (c .before .before .before .before .before .before .before .before .before .before .args .second .now) (c .before .before .before .before .before .before .before .before .before .before .args .route .now) (sym (ap sameResult (c .before .answer6 .given .1)) ∙ c .before .before .before .compared .ensures .right)
-
-returns-10 : tie.Need-returns-10
-returns-10 c =
-    route-refused (c .before .before .before .before .before .before .before .before .before .before .args .table .now) (c .before .before .before .before .before .before .before .before .before .before .args .first .now) (c .before .before .before .before .before .before .before .before .before .before .args .second .now) (c .before .before .before .before .before .before .before .before .before .before .args .route .now) (sym (ap sameResult (c .before .answer7 .given .1)) ∙ c .before .before .before .compared .ensures .right)
-
 pub route-spec : {M : Type 1} → statement M
 route-spec =
     tie.close
@@ -124,22 +82,10 @@ route-spec =
     most-exchanges-requires
     returns
     route-requires
-    cast-t27
+    cast-t22
     enum-told-2
     enum-known-answer
-    enum-known-answer-2
-    enum-known-answer-3
-    enum-known-answer-4
-    enum-known-answer-5
-    enum-known-answer-6
-    enum-known-answer-7
     same-length
     returns-2
     returns-3
-    returns-4
-    returns-5
-    returns-6
-    returns-7
-    returns-8
-    returns-9
-    returns-10)
+    returns-4)

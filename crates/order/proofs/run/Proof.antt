@@ -10,6 +10,7 @@ use Rattle.model.specs.Schedule.{firstNumbers, checkSchedule}
 use Rattle.play.specs.PlayParts.{haltOf}
 use Rattle.table.proofs.Checks.{then-refused, then-accepted}
 use Rattle.order.proofs.Outcomes.{run-refused, run-given, small-checks, run-checks, reportable, report-small}
+use Rattle.answers.proofs.Stops.{stop-refused}
 use borrow.Author.Needs.{needs}
 use Rattle.order.proofs.run.Statement.{statement}
 use Rattle.order.proofs.run.Tie as tie
@@ -55,12 +56,6 @@ cast-t37 c =
 enum-known-halt : tie.Need-enum-known-halt
 enum-known-halt c = search needs
 
-enum-known-halt-2 : tie.Need-enum-known-halt-2
-enum-known-halt-2 c = search needs
-
-enum-known-halt-3 : tie.Need-enum-known-halt-3
-enum-known-halt-3 c = search needs
-
 same-length : tie.Need-same-length
 same-length c = search needs
 
@@ -71,15 +66,7 @@ returns-3 c =
 
 returns-4 : tie.Need-returns-4
 returns-4 c =
-    run-refused (c .before .before .before .before .before .before .before .before .before .before .before .before .before .before .before .before .before .before .args .table .now) (c .before .before .before .before .before .before .before .before .before .before .before .before .before .before .before .before .before .before .args .schedule .now) (c .before .before .before .before .before .before .before .before .before .before .before .before .before .before .before .before .before .before .args .report .now) _ _ (run-checks (c .before .before .before .before .before .before .before .before .before .before .before .before .before .before .before .before .before .before .args .table .now) (c .before .before .before .before .before .before .before .before .before .before .before .before .before .before .before .before .before .before .args .schedule .now) (c .before .before .before .before .before .before .before .before .before .before .before .before .before .before .before .before .before .before .args .report .now) (c .before .before .before .before .before .before .before .before .before .before .before .before .before .before .if1 .left) ∙ (then-accepted (readOf (c .before .before .before .before .before .before .before .before .before .before .before .before .before .before .before .before .before .before .args .table .now)) (checkSchedule firstNumbers (c .before .before .before .before .before .before .before .before .before .before .before .before .before .before .before .before .before .before .args .table .now) (c .before .before .before .before .before .before .before .before .before .before .before .before .before .before .before .before .before .before .args .schedule .now)) (sym (c .before .before .before .before .before .before .before .before .before .before .before .before .before .read .ensures .0) ∙ ap outcome (c .before .before .before .before .before .before .before .before .before .before .before .enum-told .given .1)) ∙ (sym (c .before .before .before .play .ensures .halted firstNumbers) ∙ ap (haltOf firstNumbers) (c .before .halt .given .1))))
-
-returns-5 : tie.Need-returns-5
-returns-5 c =
-    run-refused (c .before .before .before .before .before .before .before .before .before .before .before .before .before .before .before .before .before .before .args .table .now) (c .before .before .before .before .before .before .before .before .before .before .before .before .before .before .before .before .before .before .args .schedule .now) (c .before .before .before .before .before .before .before .before .before .before .before .before .before .before .before .before .before .before .args .report .now) _ _ (run-checks (c .before .before .before .before .before .before .before .before .before .before .before .before .before .before .before .before .before .before .args .table .now) (c .before .before .before .before .before .before .before .before .before .before .before .before .before .before .before .before .before .before .args .schedule .now) (c .before .before .before .before .before .before .before .before .before .before .before .before .before .before .before .before .before .before .args .report .now) (c .before .before .before .before .before .before .before .before .before .before .before .before .before .before .if1 .left) ∙ (then-accepted (readOf (c .before .before .before .before .before .before .before .before .before .before .before .before .before .before .before .before .before .before .args .table .now)) (checkSchedule firstNumbers (c .before .before .before .before .before .before .before .before .before .before .before .before .before .before .before .before .before .before .args .table .now) (c .before .before .before .before .before .before .before .before .before .before .before .before .before .before .before .before .before .before .args .schedule .now)) (sym (c .before .before .before .before .before .before .before .before .before .before .before .before .before .read .ensures .0) ∙ ap outcome (c .before .before .before .before .before .before .before .before .before .before .before .enum-told .given .1)) ∙ (sym (c .before .before .before .play .ensures .halted firstNumbers) ∙ ap (haltOf firstNumbers) (c .before .halt2 .given .1))))
-
-returns-6 : tie.Need-returns-6
-returns-6 c =
-    run-refused (c .before .before .before .before .before .before .before .before .before .before .before .before .before .before .before .before .before .before .args .table .now) (c .before .before .before .before .before .before .before .before .before .before .before .before .before .before .before .before .before .before .args .schedule .now) (c .before .before .before .before .before .before .before .before .before .before .before .before .before .before .before .before .before .before .args .report .now) _ _ (run-checks (c .before .before .before .before .before .before .before .before .before .before .before .before .before .before .before .before .before .before .args .table .now) (c .before .before .before .before .before .before .before .before .before .before .before .before .before .before .before .before .before .before .args .schedule .now) (c .before .before .before .before .before .before .before .before .before .before .before .before .before .before .before .before .before .before .args .report .now) (c .before .before .before .before .before .before .before .before .before .before .before .before .before .before .if1 .left) ∙ (then-accepted (readOf (c .before .before .before .before .before .before .before .before .before .before .before .before .before .before .before .before .before .before .args .table .now)) (checkSchedule firstNumbers (c .before .before .before .before .before .before .before .before .before .before .before .before .before .before .before .before .before .before .args .table .now) (c .before .before .before .before .before .before .before .before .before .before .before .before .before .before .before .before .before .before .args .schedule .now)) (sym (c .before .before .before .before .before .before .before .before .before .before .before .before .before .read .ensures .0) ∙ ap outcome (c .before .before .before .before .before .before .before .before .before .before .before .enum-told .given .1)) ∙ (sym (c .before .before .before .play .ensures .halted firstNumbers) ∙ ap (haltOf firstNumbers) (c .before .halt3 .given .1))))
+    run-refused (c .before .before .before .before .before .before .before .before .before .before .before .before .before .before .before .before .before .before .args .table .now) (c .before .before .before .before .before .before .before .before .before .before .before .before .before .before .before .before .before .before .args .schedule .now) (c .before .before .before .before .before .before .before .before .before .before .before .before .before .before .before .before .before .before .args .report .now) _ _ (run-checks (c .before .before .before .before .before .before .before .before .before .before .before .before .before .before .before .before .before .before .args .table .now) (c .before .before .before .before .before .before .before .before .before .before .before .before .before .before .before .before .before .before .args .schedule .now) (c .before .before .before .before .before .before .before .before .before .before .before .before .before .before .before .before .before .before .args .report .now) (c .before .before .before .before .before .before .before .before .before .before .before .before .before .before .if1 .left) ∙ (then-accepted (readOf (c .before .before .before .before .before .before .before .before .before .before .before .before .before .before .before .before .before .before .args .table .now)) (checkSchedule firstNumbers (c .before .before .before .before .before .before .before .before .before .before .before .before .before .before .before .before .before .before .args .table .now) (c .before .before .before .before .before .before .before .before .before .before .before .before .before .before .before .before .before .before .args .schedule .now)) (sym (c .before .before .before .before .before .before .before .before .before .before .before .before .before .read .ensures .0) ∙ ap outcome (c .before .before .before .before .before .before .before .before .before .before .before .enum-told .given .1)) ∙ (sym (c .before .before .before .play .ensures .halted firstNumbers) ∙ ap (haltOf firstNumbers) (c .before .halt .given .1) ∙ stop-refused firstNumbers (c .before .halt .given .0 .0))))
 
 pub run-spec : {M : Type 1} → statement M
 run-spec =
@@ -94,10 +81,6 @@ run-spec =
     write-requires
     cast-t37
     enum-known-halt
-    enum-known-halt-2
-    enum-known-halt-3
     same-length
     returns-3
-    returns-4
-    returns-5
-    returns-6)
+    returns-4)

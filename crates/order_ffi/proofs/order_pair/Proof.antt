@@ -3,8 +3,8 @@
 use mathlib.Core.Path.{_≡_, _∙_, ap, ap₂, sym}
 use Prim.Native.Nat.{ℕ}
 use Rattle.model.specs.Calls.{Result, PairVerdict}
-use Rattle.order.specs.declared.PairAnswer.{PairAnswer}
-use Rattle.order.specs.Answers.{pairResult}
+use Rattle.answers.specs.declared.PairAnswer.{PairAnswer}
+use Rattle.answers.specs.Answers.{pairResult}
 use Rattle.order_ffi.specs.declared.OrderPair.{OrderPair}
 use Rattle.order_ffi.specs.Fields.{pairFields}
 use borrow.Author.Needs.{needs}
@@ -36,25 +36,16 @@ number-requires c κs = search needs
 position-requires : tie.Need-position-requires
 position-requires c κs = search needs
 
-enum-told-3 : tie.Need-enum-told-3
-enum-told-3 c = search needs
-
 returns : tie.Need-returns
-returns c =
-    as-fields (c .enum-told .given .1) (c .before .before .pair .ensures)
+returns c = as-fields (c .enum-told .given .1) (c .before .before .pair .ensures)
 
 returns-2 : tie.Need-returns-2
-returns-2 c =
-    as-fields (c .enum-told2 .given .1) (c .before .before .pair .ensures)
+returns-2 c = as-fields (c .enum-told2 .given .1) (c .before .before .pair .ensures)
 
 returns-3 : tie.Need-returns-3
 returns-3 c =
     ap₂ (λ (number at : ℕ). refusal number at) (c .before .number .ensures) (c .position .ensures)
     ∙ as-fields (c .before .before .before .answer .given .1) (c .before .before .before .before .before .pair .ensures)
-
-returns-4 : tie.Need-returns-4
-returns-4 c =
-    as-fields (c .enum-told3 .given .1) (c .before .before .pair .ensures)
 
 pub order-pair-spec : {M : Type 1} → statement M
 order-pair-spec =
@@ -66,8 +57,6 @@ order-pair-spec =
     enum-known-answer
     number-requires
     position-requires
-    enum-told-3
     returns
     returns-2
-    returns-3
-    returns-4)
+    returns-3)

@@ -3,8 +3,8 @@
 use mathlib.Core.Path.{_≡_, _∙_, ap, ap₂, sym}
 use Prim.Native.Nat.{ℕ}
 use Rattle.model.specs.Calls.{Result}
-use Rattle.order.specs.declared.RunAnswer.{RunAnswer}
-use Rattle.order.specs.Answers.{runResult}
+use Rattle.answers.specs.declared.RunAnswer.{RunAnswer}
+use Rattle.answers.specs.Answers.{runResult}
 use Rattle.order_ffi.specs.declared.OrderRun.{OrderRun}
 use Rattle.order_ffi.specs.Fields.{runFields}
 use borrow.Author.Needs.{needs}
@@ -24,9 +24,6 @@ run-requires c κs = search needs
 enum-known-answer : tie.Need-enum-known-answer
 enum-known-answer c = search needs
 
-enum-told : tie.Need-enum-told
-enum-told c = search needs
-
 enum-known-answer-2 : tie.Need-enum-known-answer-2
 enum-known-answer-2 c = search needs
 
@@ -35,15 +32,6 @@ number-requires c κs = search needs
 
 position-requires : tie.Need-position-requires
 position-requires c κs = search needs
-
-enum-known-answer-3 : tie.Need-enum-known-answer-3
-enum-known-answer-3 c = search needs
-
-enum-known-answer-4 : tie.Need-enum-known-answer-4
-enum-known-answer-4 c = search needs
-
-enum-known-answer-5 : tie.Need-enum-known-answer-5
-enum-known-answer-5 c = search needs
 
 same-length : tie.Need-same-length
 same-length c = search needs
@@ -56,39 +44,11 @@ same-length-2 : tie.Need-same-length-2
 same-length-2 c = search needs
 
 returns-2 : tie.Need-returns-2
-returns-2 c =
-    (as-fields (c .enum-told .given .1) (c .before .before .before .before .run .ensures .0), c .before .before .before .before .run .ensures .1)
-
-same-length-3 : tie.Need-same-length-3
-same-length-3 c = search needs
-
-returns-3 : tie.Need-returns-3
-returns-3 c = (
+returns-2 c = (
   ap₂ (λ (number at : ℕ). refusal number at) (c .before .number .ensures) (c .position .ensures)
       ∙ as-fields (c .before .before .before .answer2 .given .1) (c .before .before .before .before .before .before .before .run .ensures .0),
   c .before .before .before .before .before .before .before .run .ensures .1,
 )
-
-same-length-4 : tie.Need-same-length-4
-same-length-4 c = search needs
-
-returns-4 : tie.Need-returns-4
-returns-4 c =
-    (as-fields (c .before .answer3 .given .1) (c .before .before .before .before .before .run .ensures .0), c .before .before .before .before .before .run .ensures .1)
-
-same-length-5 : tie.Need-same-length-5
-same-length-5 c = search needs
-
-returns-5 : tie.Need-returns-5
-returns-5 c =
-    (as-fields (c .before .answer4 .given .1) (c .before .before .before .before .before .run .ensures .0), c .before .before .before .before .before .run .ensures .1)
-
-same-length-6 : tie.Need-same-length-6
-same-length-6 c = search needs
-
-returns-6 : tie.Need-returns-6
-returns-6 c =
-    (as-fields (c .before .answer5 .given .1) (c .before .before .before .before .before .run .ensures .0), c .before .before .before .before .before .run .ensures .1)
 
 pub order-run-spec : {M : Type 1} → statement M
 order-run-spec =
@@ -96,22 +56,10 @@ order-run-spec =
     (tie.spec
     run-requires
     enum-known-answer
-    enum-told
     enum-known-answer-2
     number-requires
     position-requires
-    enum-known-answer-3
-    enum-known-answer-4
-    enum-known-answer-5
     same-length
     returns
     same-length-2
-    returns-2
-    same-length-3
-    returns-3
-    same-length-4
-    returns-4
-    same-length-5
-    returns-5
-    same-length-6
-    returns-6)
+    returns-2)

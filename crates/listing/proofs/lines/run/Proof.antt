@@ -5,7 +5,7 @@ use borrow.Author.Needs.{needs}
 use Rattle.model.specs.Listing.{line, endText}
 use Rattle.answers.specs.Answers.{endingAs}
 use Rattle.writing.proofs.Written.{wrote-then}
-use Rattle.listing.specs.Laid.{firstSteps}
+use Rattle.listing.specs.FirstSteps.{firstSteps}
 use Rattle.listing.proofs.lines.run.Statement.{statement}
 use Rattle.listing.proofs.lines.run.Tie as tie
 
