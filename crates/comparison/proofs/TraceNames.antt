@@ -31,7 +31,10 @@ use Rattle.model.proofs.Invariant.{inv-initial}
 use Rattle.model.proofs.Checks.{steps-in-table}
 use Rattle.model.proofs.Demand3.{site-theorems}
 use Rattle.names.specs.InByte.{nameOf}
-use Rattle.verdict.specs.Names.{namesIn, Stands, Compared, Routable}
+use Rattle.names.specs.Names.{namesIn}
+use Rattle.names.specs.Steps.{Stands}
+use Rattle.equivalence.specs.Compared.{Compared}
+use Rattle.routing.specs.Routable.{Routable}
 use Rattle.comparison.specs.Traces.{Kept}
 use Rattle.trace.proofs.OwnOrder.{one-order}
 

@@ -14,7 +14,7 @@ use Rattle.model.specs.Calls.{sameOf}
 use Rattle.play.specs.PlayParts.{haltOf}
 use Rattle.play.specs.declared.Halt.{Halt}
 use Rattle.play.specs.declared.Halt.the-variants.{End}
-use Rattle.verdict.specs.Names.{namesIn}
+use Rattle.names.specs.Names.{namesIn}
 use Rattle.answers.specs.declared.SameAnswer.{SameAnswer}
 use Rattle.answers.specs.declared.SameAnswer.the-variants as same
 use Rattle.answers.specs.Answers.{sameResult}

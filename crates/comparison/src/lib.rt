@@ -7,7 +7,6 @@ use answers::Refusal;
 use answers::SameAnswer;
 use play::Halt;
 use table::Reading;
-use verdict::same;
 
 // Reads the table, steps the first schedule whole and then the second, and judges. `names` and `others` are left with the names of the
 // steps that the two run, where they are the same.
@@ -65,7 +64,7 @@ fn judge(
     if m != second.len() {
         return SameAnswer::Different;
     }
-    if same::same(table, names, others, m) {
+    if equivalence::same(table, names, others, m) {
         SameAnswer::Same
     } else {
         SameAnswer::Different

@@ -1,2 +1,4 @@
--- Laws of step names as bytes.
+-- What holds of step names.
 pub mod InByte
+pub mod Listed
+pub mod NamedBytes

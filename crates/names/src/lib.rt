@@ -1,1 +1,1 @@
-// A step's name in one byte, and lists of names in bytes: definitions and laws, no code.
+// Step names: which a table has, and lists of them in bytes. It has no code: `specs/` holds the definitions, and `proofs/` what holds of them.

@@ -13,8 +13,6 @@ use answers::RunAnswer;
 use answers::SameAnswer;
 use play::Halt;
 use table::Reading;
-use verdict::pair;
-use verdict::route;
 
 // Runs a schedule from a fresh site and writes the state report of its end into the lent bytes.
 pub fn run(table: &[u8], schedule: &[u8], report: &mut [u8]) -> RunAnswer
@@ -121,7 +119,7 @@ pub fn pair(table: &[u8], actor: u8, action: u8, actor2: u8, action2: u8) -> Pai
     if !stands(table, b, l) {
         return PairAnswer::Refused(Refusal::NoStep);
     }
-    if pair::dependent(table, a, k, b, l) {
+    if dependence::dependent(table, a, k, b, l) {
         PairAnswer::Dependent
     } else {
         PairAnswer::Independent
@@ -160,7 +158,7 @@ pub fn route(table: &[u8], first: &[u8], second: &[u8], route: &mut [u16]) -> Ro
             if route.len() < most_exchanges(m) {
                 return RouteAnswer::Refused(Refusal::RouteRoom);
             }
-            let n = route::route(&names, &others, m, route);
+            let n = routing::route(&names, &others, m, route);
             RouteAnswer::Length(n as u32)
         }
         SameAnswer::Different => RouteAnswer::Refused(Refusal::Different),

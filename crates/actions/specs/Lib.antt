@@ -1,0 +1,2 @@
+-- What an action is, besides its cells.
+pub mod Fields

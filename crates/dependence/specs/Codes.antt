@@ -1,0 +1,90 @@
+-- The comparison codes of the pair verdict: which comparison document 01's four cases ask for, by the kinds alone, and what each code compares of two
+-- actions.
+-- Assumes nothing: these are definitions.
+use Prim.Native.Nat.{ℕ}
+use mathlib.Core.Bool.{Bool, false, _&&_, _||_, cond}
+use mathlib.Core.List.{List, [], _∷_}
+use lib.Dec.{eqb, ltb}
+use lib.ListN.{getD}
+use Rattle.table.specs.declared.Action.{Action}
+use Rattle.table.specs.Decode.{actionOf}
+use Rattle.trace.specs.Machine.{Name}
+use Rattle.trace.specs.Order.{has}
+use Rattle.model.specs.Step.{actionAt}
+use Rattle.model.specs.Pair.{anyOf}
+use Rattle.actions.specs.Fields.{kindOf, targetOf, listOf}
+
+-- ---- what is compared of an action
+
+-- it is of this kind, a Send's or a Receive's, on this mailbox
+abbrev pub isOn : ℕ → ℕ → Action → Bool
+isOn kind mailbox x = eqb (kindOf x) kind && eqb (targetOf x) mailbox
+
+-- ---- the rule of the table: which code stands for two kinds
+
+-- 1. both Send, or both Receive
+abbrev pub bothMail : ℕ → ℕ → Bool
+bothMail i j = (eqb i 3 && eqb j 3) || (eqb i 4 && eqb j 4)
+
+-- 2. a Test or Wait, which may list Receives, and a Send; or which may list Sends, and a Receive
+abbrev pub testSend : ℕ → ℕ → Bool
+testSend i j = (eqb i 5 || eqb i 6) && eqb j 3
+
+abbrev pub testReceive : ℕ → ℕ → Bool
+testReceive i j = (eqb i 5 || eqb i 6) && eqb j 4
+
+-- 3. both Lock
+abbrev pub bothLock : ℕ → ℕ → Bool
+bothLock i j = eqb i 7 && eqb j 7
+
+-- 4. a MutexTest or MutexWait, and an Unlock
+abbrev pub testUnlock : ℕ → ℕ → Bool
+testUnlock i j = (eqb i 9 || eqb i 10) && eqb j 8
+
+-- in either order
+abbrev pub either : (ℕ → ℕ → Bool) → ℕ → ℕ → Bool
+either f i j = f i j || f j i
+
+-- the code of two kinds, 0 for those in no case
+unfoldable pub codeOf : ℕ → ℕ → ℕ
+codeOf i j =
+    cond (bothMail i j) 1
+    (cond (either testSend i j) 2 (cond (either testReceive i j) 3 (cond (bothLock i j) 4 (cond (either testUnlock i j) 5 0))))
+
+-- ---- what a code compares
+
+-- of an action on m, a mailbox or a mutex, that lists l, and another on n, of which the first has the higher kind or both the same; `own` are the
+-- actions of the first one's actor
+abbrev pub comparisonOf : ℕ → (ℕ → Action) → ℕ → List ℕ → ℕ → Bool
+comparisonOf code own m l n =
+    getD
+    -- 0: nothing, they are independent
+    (false
+    -- 1: they are on one mailbox
+    ∷ eqb m n
+    -- 2: the first lists a Receive on the other's mailbox
+    ∷ anyOf (λ k. isOn 4 n (own k)) l
+    -- 3: the first lists a Send on the other's mailbox
+    ∷ anyOf (λ k. isOn 3 n (own k)) l
+    -- 4: they are on one mutex
+    ∷ eqb m n
+    -- 5: the first lists the other's mutex
+    ∷ has l n
+    ∷ [])
+    code
+    false
+
+abbrev pub comparison : ℕ → (ℕ → Action) → Action → Action → Bool
+comparison code own x y = comparisonOf code own (targetOf x) (listOf x) (targetOf y)
+
+-- two actions of different actors by their code: a Test or Wait has a higher kind than what it is compared with, so the higher kind comes first
+abbrev pub compared : (own other : ℕ → Action) → Action → Action → Bool
+compared own other x y =
+    cond (ltb (kindOf x) (kindOf y)) (comparison (codeOf (kindOf x) (kindOf y)) other y x)
+    (comparison (codeOf (kindOf x) (kindOf y)) own x y)
+
+-- the pair verdict by the codes
+abbrev pub byCode : List ℕ → Name → Name → Bool
+byCode table x y =
+    eqb (x .actor) (y .actor)
+    || compared (actionOf table (x .actor)) (actionOf table (y .actor)) (actionAt table x) (actionAt table y)

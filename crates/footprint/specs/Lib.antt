@@ -1,0 +1,2 @@
+-- What a footprint is.
+pub mod Marks

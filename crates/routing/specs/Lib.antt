@@ -1,0 +1,3 @@
+-- What the route asks of its caller, and what its functions promise one another.
+pub mod Routable
+pub mod Parts
