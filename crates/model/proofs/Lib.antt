@@ -23,7 +23,10 @@ pub mod ReportBoundCounts
 pub mod ReportBoundNames
 pub mod ReportBoundQueues
 pub mod ReportBoundMail
-pub mod ReportBoundSite
+pub mod ReachedQueued
+pub mod ReachedPaired
+pub mod ReachedMail
+pub mod Reached
 pub mod ReportBoundLengths
 pub mod ReportBoundSteps
 pub mod ReportBoundCells

@@ -18,6 +18,7 @@ pub mod ReadyMask
 pub mod Demand3
 pub mod Refusals
 pub mod Bound
+pub mod Reached
 pub mod Claims
 pub mod Cases
 pub mod Examples
