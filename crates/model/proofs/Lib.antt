@@ -32,6 +32,8 @@ pub mod ReportBoundSteps
 pub mod ReportBoundCells
 pub mod ReportBoundValues
 pub mod ReportBound
+pub mod ReportSplit
+pub mod Determined
 pub mod Decimal
 pub mod TableBeginning
 pub mod Beginnings

@@ -19,6 +19,7 @@ pub mod Demand3
 pub mod Refusals
 pub mod Bound
 pub mod Reached
+pub mod Determined
 pub mod Claims
 pub mod Cases
 pub mod Examples
