@@ -55,7 +55,7 @@ one-box (Unlock mutex) n k = none-posted n k
 one-box (MutexTest result list) n k = none-posted n k
 one-box (MutexWait result list) n k = none-posted n k
 
-abbrev portOf : ℕ → Side → Port
+abbrev pub portOf : ℕ → Side → Port
 portOf m d = record { mailbox = m; side = d }
 
 module _ (table : List ℕ) (s : Site) (r : Reached table s) where

@@ -26,7 +26,7 @@ has-cases a b q h = go (or-cases (eqb a b) (has q a) h)
 has-tail : (a b : ℕ) (q : List ℕ) → has q a ≡ true → has (b ∷ q) a ≡ true
 has-tail a b q h = or-right (eqb a b) (has q a) h
 
-has-head : (a : ℕ) (q : List ℕ) → has (a ∷ q) a ≡ true
+pub has-head : (a : ℕ) (q : List ℕ) → has (a ∷ q) a ≡ true
 has-head a q = or-left (eqb a a) (has q a) (eq-eqb a a refl)
 
 -- ---- joining at the end

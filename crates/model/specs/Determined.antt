@@ -1,5 +1,5 @@
--- "Two states are equal when their reports are": the report of a state that an accepted schedule reaches says all of that state that the table names.
--- One statement, `ReportDetermines`, with its proof in `proofs/Determined.antt`.
+-- "Two states are equal when their reports are": the report of a state that an accepted schedule reaches says all of that state that the table
+-- names (`ReportDetermines`), and what the table does not name is the same in every such state (`EqualStates`). Proved in `proofs/Determined.antt`.
 -- Assumes nothing: these are definitions.
 use Prim.Native.Nat.{ℕ, _<_}
 use mathlib.Core.Path.{_≡_}
@@ -30,3 +30,8 @@ Bytes table = (j : ℕ) → byteAt table j < 256
 abbrev pub ReportDetermines : Type 0
 ReportDetermines = (table : List ℕ) → readOf table ≡ accepted → Bytes table → (p q : List ℕ) → Accepted table p → Accepted table q
     → (report table (endState table p) ≡ report table (endState table q)) ↔ SameSite table (endState table p) (endState table q)
+
+-- and exactly when they are one state
+abbrev pub EqualStates : Type 0
+EqualStates = (table : List ℕ) → readOf table ≡ accepted → Bytes table → (p q : List ℕ) → Accepted table p → Accepted table q
+    → (report table (endState table p) ≡ report table (endState table q)) ↔ (endState table p ≡ endState table q)
