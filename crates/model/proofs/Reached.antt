@@ -134,20 +134,20 @@ module _ (table : List ℕ) (s : Site) (r : Reached table s) where
         go (inl old) = let k = r .queued-locked m b old in (k .0, omega (arith, position-rises table s b a, k .1), k .2)
         go (inr new) = rw (new .0) (s .actor a .position, omega (arith, own-position table s a), new .1)
 
-    module _ (go-on : ready table s a ≡ true) where
+    module _ (is-ready : ready table s a ≡ true) where
       step-position : (b : ℕ) → step table s a .actor b .position ≤ countOf table b
       step-position b = go (which (eqb b a))
         where
           go : (eqb b a ≡ true) ⊎ (eqb b a ≡ false) → step table s a .actor b .position ≤ countOf table b
           go (inl e) =
               rw (eqb-true b a e)
-              (omega (arith, own-position table s a, ltb-true (s .actor a .position) (countOf table a) (ready-parts table s a go-on .1)))
+              (omega (arith, own-position table s a, ltb-true (s .actor a .position) (countOf table a) (ready-parts table s a is-ready .1)))
           go (inr e) = rw (others-record table s b a (eqb-false b a e)) (r .position-most b)
 
       -- an actor that the table lacks is another
       absent-record : (b : ℕ) → actorsOf table ≤ b → step table s a .actor b ≡ s .actor b
       absent-record b h =
-          let here : a < actorsOf table = ltb-true a (actorsOf table) (ready-parts table s a go-on .0) in
+          let here : a < actorsOf table = ltb-true a (actorsOf table) (ready-parts table s a is-ready .0) in
           others-record table s b a (omega arith)
 
       pub reached-step : Reached table (step table s a)

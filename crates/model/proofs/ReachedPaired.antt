@@ -33,13 +33,13 @@ module _ (postOf : Name → Post) (P : Port) (me : Name) (v : ℕ) (m : Mail) (m
   partner-other : oldest ≢ me
   partner-other = other-step m me fresh oldest (pending-posted (m .comm oldest) (partner-was .0))
 
-  -- the partner is now behind none that is queued
+  -- the partner stands in its queue once: it is not among the steps behind it
   partner-gone : mem oldest rest ≡ false
   partner-gone =
       let whole : Distinct (oldest ∷ rest) = rw found at (right .pending-once (opposite P)) in
       whole .0
 
-  -- a communication after the pair: this step's, its partner's, or as it was
+  -- a communication after the pair: this step's, its partner's, or another's, which is as it was
   abbrev After : Name → Type 0
   After x =
       ((x ≡ me) × (paired .comm x ≡ done oldest value))
