@@ -63,7 +63,7 @@ mem-append z x (y ∷ l) h = go (mem-cases z y (l ++ (x ∷ [])) h) (mem-append 
     go (inr m) rest = later (rest m)
 
 -- what is pending after a meeting: the step itself at its port, and what was pending before
-meeting-members : (l : List Name) (P R : Port) (x z : Name) (v : ℕ) (m : Mail) → m .waiting (opposite P) ≡ l
+pub meeting-members : (l : List Name) (P R : Port) (x z : Name) (v : ℕ) (m : Mail) → m .waiting (opposite P) ≡ l
     → mem z (meetWith l P x v m .waiting R) ≡ true → ((z ≡ x) × (P ≡ R)) ⊎ (mem z (m .waiting R) ≡ true)
 meeting-members [] P R x z v m e h = go (which (eqPort R P))
   where

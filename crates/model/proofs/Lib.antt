@@ -4,6 +4,9 @@
 -- `ReadyMask`: the mask's bits and ones;
 -- `Demand3`: demand 3, of every table that the reader accepts;
 -- `Refusals`: a refused run changes nothing lent;
+-- `Reached`: what holds of every state that an accepted schedule reaches, from any start that has it;
+-- `ReportBound`: no report passes the table's bound, nor 2,912 bytes;
+-- `Determined`: two states are equal when their reports are;
 -- `Routes`: the route call's promise can be kept;
 -- `Beginnings`: a listing goes by the beginnings of its files alone.
 pub mod Upd
@@ -23,12 +26,19 @@ pub mod ReportBoundCounts
 pub mod ReportBoundNames
 pub mod ReportBoundQueues
 pub mod ReportBoundMail
-pub mod ReportBoundSite
+pub mod ReachedQueued
+pub mod ReachedPaired
+pub mod ReachedMail
+pub mod Reached
 pub mod ReportBoundLengths
 pub mod ReportBoundSteps
 pub mod ReportBoundCells
 pub mod ReportBoundValues
 pub mod ReportBound
+pub mod ReportSplit
+pub mod SameReports
+pub mod SameStates
+pub mod Determined
 pub mod Decimal
 pub mod TableBeginning
 pub mod Beginnings

@@ -15,9 +15,10 @@ use Rattle.model.specs.Site.{Actor, Port, Comm, unposted, pending, done,
 use Rattle.model.specs.Report.{actorBytes, commBytes, nameBytes, boxBytes, mutexBytes, parts, boxQueue, actorsPart, actionsPart, boxesPart, mutexesPart, report}
 use Rattle.model.specs.Bound.{actionCount, postsOf, postCount, hasLock, lockersOf, lockerCount, reportBound, ReportsFit}
 use Rattle.model.specs.Schedule.{machine}
+use Rattle.model.specs.Reached.{Reached}
 use Rattle.model.specs.Cases.{tableA}
 use Rattle.model.proofs.ReportBoundCounts.{total-le, total-most, total-add, total-times, length-parts, howMany-most}
-use Rattle.model.proofs.ReportBoundSite.{InBounds, bounds-end}
+use Rattle.model.proofs.Reached.{reached-end}
 use Rattle.model.proofs.ReportBoundLengths.{boxes-length, box-most, port-most, queue-length}
 use Rattle.model.proofs.ReportBoundSteps.{entries-most}
 
@@ -69,7 +70,7 @@ module _ (table : List ℕ) (s : Site) where
         total-times 8 (countOf table) (actorsOf table) 0,
       )
 
-  module _ (i : InBounds table s) where
+  module _ (r : Reached table s) where
     boxes-section : length (boxesPart table s) ≤ 2 * mailboxesOf table + 2 * postCount table
     boxes-section =
         omega (
@@ -80,7 +81,7 @@ module _ (table : List ℕ) (s : Site) where
           total-add (λ m. 2) (λ m. 2 * length (boxQueue table s m)) (mailboxesOf table) 0,
           total-most (λ m. 2) 2 (mailboxesOf table) 0 (λ m l h. omega arith),
           total-times 2 (λ m. length (boxQueue table s m)) (mailboxesOf table) 0,
-          boxes-length table s i (mailboxesOf table) 0,
+          boxes-length table s r (mailboxesOf table) 0,
         )
 
     mutexes-section : length (mutexesPart table s) ≤ mutexesOf table + lockerCount table
@@ -89,12 +90,12 @@ module _ (table : List ℕ) (s : Site) where
           arith,
           length-parts (λ m. mutexBytes (s .queue m)) (mutexesOf table) 0,
           total-le (λ m. length (mutexBytes (s .queue m))) (λ m. 1 + lockersOf table m) (mutexesOf table) 0
-              (λ m l h. omega (arith, queue-length table s i m)),
+              (λ m l h. omega (arith, queue-length table s r m)),
           total-add (λ m. 1) (lockersOf table) (mutexesOf table) 0,
           total-most (λ m. 1) 1 (mutexesOf table) 0 (λ m l h. omega arith),
         )
 
-    -- the report of a site within bounds
+    -- the report of a reached state
     pub report-length : length (report table s) ≤ reportBound table
     unfolding report reportBound
     report-length =
@@ -137,14 +138,14 @@ module _ (table : List ℕ) (ok : WellFormed table) where
   bound-most = omega (arith, actions-most, posts-most, lockers-most, ok .actors-most, ok .mailboxes-most, ok .mutexes-most)
 
   pub reports-fit : ReportsFit table
-  reports-fit = record { fits = λ p h. report-length table _ (bounds-end table p h); room = bound-most }
+  reports-fit = record { fits = λ p h. report-length table _ (reached-end table p h); room = bound-most }
 
-  -- what holds in every state within bounds, and of every accepted schedule, by numbers alone
-  pub box-room : (s : Site) → InBounds table s → (m : ℕ) → length (boxQueue table s m) ≤ 256
-  box-room s i m = omega (arith, box-most table s i m, posts-most)
+  -- what holds in every reached state, and of every accepted schedule, by numbers alone
+  pub box-room : (s : Site) → Reached table s → (m : ℕ) → length (boxQueue table s m) ≤ 256
+  box-room s r m = omega (arith, box-most table s r m, posts-most)
 
-  pub port-room : (s : Site) → InBounds table s → (p : Port) → length (s .mail .waiting p) ≤ 256
-  port-room s i p = omega (arith, port-most table s i p, posts-most)
+  pub port-room : (s : Site) → Reached table s → (p : Port) → length (s .mail .waiting p) ≤ 256
+  port-room s r p = omega (arith, port-most table s r p, posts-most)
 
   pub entries-room : (p : List ℕ) → accepted (machine table) initial p ≡ true → length p ≤ 256
   entries-room p h = omega (arith, entries-most table p h, actions-most)

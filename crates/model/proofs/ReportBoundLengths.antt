@@ -1,4 +1,4 @@
--- How long the queues of a site within bounds are, by the table's counts: those of all mailboxes together come to no more than the Sends and
+-- How long the queues of a reached state are, by the table's counts: those of all mailboxes together come to no more than the Sends and
 -- Receives, and a mutex's to no more than the actors with a Lock of it.
 -- Assumes nothing.
 use Prim.Native.Nat.{ℕ, _+_, _≤_, _<_}
@@ -25,10 +25,11 @@ use Rattle.model.specs.Pair.{isJoin}
 use Rattle.model.specs.Step.{actionAt}
 use Rattle.model.specs.Report.{boxQueue}
 use Rattle.model.specs.Bound.{total, postCount, hasLock, lockersOf}
+use Rattle.model.specs.Reached.{Locked, Reached}
 use Rattle.model.proofs.ReportBoundCounts.{total-le, total-most, howMany-most, some-of, one-place}
 use Rattle.model.proofs.ReportBoundNames.{allNames, all-names, distinct-count, count-all, counts-apart}
 use Rattle.model.proofs.ReportBoundQueues.{once-count}
-use Rattle.model.proofs.ReportBoundSite.{Locked, InBounds}
+use Rattle.model.proofs.Reached.{pending-inv}
 
 -- what is posted is a communication in this mailbox, on either side
 abbrev toBox : ℕ → Post → Bool
@@ -54,17 +55,17 @@ one-box (Unlock mutex) n k = none-posted n k
 one-box (MutexTest result list) n k = none-posted n k
 one-box (MutexWait result list) n k = none-posted n k
 
-abbrev portOf : ℕ → Side → Port
+abbrev pub portOf : ℕ → Side → Port
 portOf m d = record { mailbox = m; side = d }
 
-module _ (table : List ℕ) (s : Site) (i : InBounds table s) where
+module _ (table : List ℕ) (s : Site) (r : Reached table s) where
   -- an actor that has stepped is one of the table's
   pub stepped-actor : (a : ℕ) → 0 < s .actor a .position → a < actorsOf table
   stepped-actor a h = go (which (ltb a (actorsOf table)))
     where
       go : (ltb a (actorsOf table) ≡ true) ⊎ (ltb a (actorsOf table) ≡ false) → a < actorsOf table
       go (inl e) = ltb-true a (actorsOf table) e
-      go (inr e) = absurd (omega (arith, i .absent-still a (ltb-false a (actorsOf table) e)))
+      go (inr e) = absurd (omega (arith, r .absent-still a (ltb-false a (actorsOf table) e)))
 
   -- ---- mailboxes
 
@@ -72,24 +73,24 @@ module _ (table : List ℕ) (s : Site) (i : InBounds table s) where
   pub pending-named : (p : Port) (x : Name) → mem x (s .mail .waiting p) ≡ true
       → (x .actor < actorsOf table) × (x .position < countOf table (x .actor))
   pending-named p x h =
-      let low : x .position < s .actor (x .actor) .position = i .pending .below p x h in
-      (stepped-actor (x .actor) (omega arith), omega (arith, i .position-most (x .actor)))
+      let low : x .position < s .actor (x .actor) .position = pending-inv table s r .below p x h in
+      (stepped-actor (x .actor) (omega arith), omega (arith, r .position-most (x .actor)))
 
   abbrev postedTo : ℕ → ℕ
   postedTo m = count (λ x. toBox m (posts (actionAt table x))) (allNames table)
 
   port-length : (p : Port) → length (s .mail .waiting p) ≤ postedTo (p .mailbox)
   port-length p =
-      distinct-count (λ x. toBox (p .mailbox) (posts (actionAt table x))) (s .mail .waiting p) (allNames table) (i .pending-once p) counted
+      distinct-count (λ x. toBox (p .mailbox) (posts (actionAt table x))) (s .mail .waiting p) (allNames table) (r .mail .pending-once p) counted
     where
       counted : (x : Name) → mem x (s .mail .waiting p) ≡ true
           → (mem x (allNames table) ≡ true) × (toBox (p .mailbox) (posts (actionAt table x)) ≡ true)
       counted x h =
           let known = pending-named p x h in
-          (all-names table x (known .0) (known .1), rw (i .pending .posted p x h) (eq-eqb (p .mailbox) (p .mailbox) refl))
+          (all-names table x (known .0) (known .1), rw (r .mail .pending-queued p x .0 h .1) (eq-eqb (p .mailbox) (p .mailbox) refl))
 
   box-length : (m : ℕ) → length (boxQueue table s m) ≤ postedTo m
-  box-length m = go (i .one-sided (portOf m sends))
+  box-length m = go (r .mail .one-sided (portOf m sends))
     where
       go : (s .mail .waiting (portOf m sends) ≡ []) ⊎ (s .mail .waiting (portOf m receives) ≡ []) → length (boxQueue table s m) ≤ postedTo m
       go (inl e) = rw e (port-length (portOf m receives))
@@ -139,15 +140,15 @@ module _ (table : List ℕ) (s : Site) (i : InBounds table s) where
   -- ---- mutexes
 
   pub queue-length : (m : ℕ) → length (s .queue m) ≤ lockersOf table m
-  queue-length m = once-count (hasLock table m) (actorsOf table) 0 (s .queue m) (i .queued-once m) locker
+  queue-length m = once-count (hasLock table m) (actorsOf table) 0 (s .queue m) (r .queued-once m) locker
     where
       locker : (a : ℕ) → has (s .queue m) a ≡ true → (0 ≤ a) × (a < 0 + actorsOf table) × (hasLock table m a ≡ true)
       locker a h =
-          let k : Locked table s m a = i .queued-locked m a h in
+          let k : Locked table s m a = r .queued-locked m a h in
           let low : k .0 < s .actor a .position = k .1 in (
             omega arith,
             omega (arith, stepped-actor a (omega arith)),
-            some-of (λ j. isJoin (posts (actionAt table (name a j))) m) (countOf table a) 0 (k .0) (omega arith) (omega (arith, i .position-most a))
+            some-of (λ j. isJoin (posts (actionAt table (name a j))) m) (countOf table a) 0 (k .0) (omega arith) (omega (arith, r .position-most a))
                 (rw (k .2) (eq-eqb m m refl)),
           )
 

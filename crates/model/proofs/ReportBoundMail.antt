@@ -10,8 +10,8 @@ use Rattle.trace.specs.Order.{eqName, mem, Distinct}
 use Rattle.trace.proofs.Bools.{which, contrary, is-false, or-false-left, or-false-right}
 use Rattle.trace.proofs.Names.{eqName-refl}
 use Rattle.model.specs.Site.{upd, Port, opposite, eqPort, Mail}
-use Rattle.model.specs.Views.{Post, silent, mails, joins, leaves}
-use Rattle.model.specs.Mail.{meetWith, mailing}
+use Rattle.model.specs.Mail.{meetWith}
+use Rattle.model.specs.Reached.{OneSided}
 use Rattle.model.proofs.Upd.{upd-other}
 use Rattle.model.proofs.Ports.{port-test, opposite-opposite, opposite-apart}
 use Rattle.model.proofs.Invariant.{mem-append}
@@ -36,24 +36,14 @@ change-keeps P w Q l h new R = go (which (eqPort R Q))
     go (inl e) = rw e new
     go (inr e) = rw e (h R)
 
-meeting-distinct : (l : List Name) (P : Port) (x : Name) (v : ℕ) (m : Mail) → m .waiting (opposite P) ≡ l → ((R : Port) → Distinct (m .waiting R))
+pub meeting-distinct : (l : List Name) (P : Port) (x : Name) (v : ℕ) (m : Mail) → m .waiting (opposite P) ≡ l → ((R : Port) → Distinct (m .waiting R))
     → mem x (m .waiting P) ≡ false → (R : Port) → Distinct (meetWith l P x v m .waiting R)
 meeting-distinct [] P x v m e d n R = change-keeps Distinct (m .waiting) P _ d (distinct-append x (m .waiting P) (d P) n) R
 meeting-distinct (y ∷ l) P x v m e d n R =
     let whole : Distinct (y ∷ l) = subst (λ (q : List Name). Distinct q) e (d (opposite P)) in
     change-keeps Distinct (m .waiting) (opposite P) l d (whole .1) R
 
-pub mailing-distinct : (p : Post) (x : Name) (v : ℕ) (m : Mail) → ((R : Port) → Distinct (m .waiting R))
-    → ((R : Port) → mem x (m .waiting R) ≡ false) → (R : Port) → Distinct (mailing p x v m .waiting R)
-mailing-distinct silent x v m d n R = d R
-mailing-distinct (mails P) x v m d n R = meeting-distinct (m .waiting (opposite P)) P x v m refl d (n P) R
-mailing-distinct (joins k) x v m d n R = d R
-mailing-distinct (leaves k) x v m d n R = d R
-
 -- ---- one side is empty
-
-abbrev pub OneSided : (Port → List Name) → Type 0
-OneSided w = (R : Port) → (w R ≡ []) ⊎ (w (opposite R) ≡ [])
 
 -- a queue changes whose opposite is empty
 change-one-sided : (w : Port → List Name) (Q : Port) (l : List Name) → w (opposite Q) ≡ [] → OneSided w → OneSided (upd eqPort w Q l)
@@ -79,7 +69,7 @@ not-empty x l h = true≢false (ap full h)
     full [] = false
     full (y ∷ r) = true
 
-meeting-one-sided : (l : List Name) (P : Port) (x : Name) (v : ℕ) (m : Mail) → m .waiting (opposite P) ≡ l → OneSided (m .waiting)
+pub meeting-one-sided : (l : List Name) (P : Port) (x : Name) (v : ℕ) (m : Mail) → m .waiting (opposite P) ≡ l → OneSided (m .waiting)
     → OneSided (meetWith l P x v m .waiting)
 meeting-one-sided [] P x v m e o = change-one-sided (m .waiting) P _ e o
 meeting-one-sided (y ∷ l) P x v m e o = change-one-sided (m .waiting) (opposite P) l (none (o P)) o
@@ -87,9 +77,3 @@ meeting-one-sided (y ∷ l) P x v m e o = change-one-sided (m .waiting) (opposit
     none : (m .waiting P ≡ []) ⊎ (m .waiting (opposite P) ≡ []) → m .waiting (opposite (opposite P)) ≡ []
     none (inl h) = rw (opposite-opposite P) h
     none (inr h) = absurd (not-empty y l (sym e ∙ h))
-
-pub mailing-one-sided : (p : Post) (x : Name) (v : ℕ) (m : Mail) → OneSided (m .waiting) → OneSided (mailing p x v m .waiting)
-mailing-one-sided silent x v m o = o
-mailing-one-sided (mails P) x v m o = meeting-one-sided (m .waiting (opposite P)) P x v m refl o
-mailing-one-sided (joins k) x v m o = o
-mailing-one-sided (leaves k) x v m o = o

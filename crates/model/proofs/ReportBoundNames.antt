@@ -52,7 +52,7 @@ rows table (suc n) a = row a (countOf table a) 0 ++ rows table n (suc a)
 abbrev pub allNames : List ℕ → List Name
 allNames table = rows table (actorsOf table) 0
 
-mem-append-left : (x : Name) (l m : List Name) → mem x l ≡ true → mem x (l ++ m) ≡ true
+pub mem-append-left : (x : Name) (l m : List Name) → mem x l ≡ true → mem x (l ++ m) ≡ true
 mem-append-left x [] m h = absurd (false≢true h)
 mem-append-left x (y ∷ l) m h = go (mem-cases x y l h) (mem-append-left x l m)
   where
@@ -60,7 +60,7 @@ mem-append-left x (y ∷ l) m h = go (mem-cases x y l h) (mem-append-left x l m)
     go (inl e) rest = rw e (mem-head y (l ++ m))
     go (inr n) rest = mem-tail x y (l ++ m) (rest n)
 
-mem-append-right : (x : Name) (l m : List Name) → mem x m ≡ true → mem x (l ++ m) ≡ true
+pub mem-append-right : (x : Name) (l m : List Name) → mem x m ≡ true → mem x (l ++ m) ≡ true
 mem-append-right x [] m h = h
 mem-append-right x (y ∷ l) m h = mem-tail x y (l ++ m) (mem-append-right x l m h)
 

@@ -14,11 +14,7 @@ use Rattle.trace.proofs.Bools.{which, contrary, is-false, or-left, or-right, or
 use Rattle.model.specs.Views.{Post, silent, mails, joins, leaves}
 use Rattle.model.specs.Mutex.{join, leave, queueing}
 use Rattle.model.specs.Ready.{howMany}
-
--- no actor is named twice
-abbrev pub Once : List ℕ → Type 0
-Once [] = Unit {0}
-Once (a ∷ q) = (has q a ≡ false) × Once q
+use Rattle.model.specs.Reached.{Once}
 
 has-cases : (a b : ℕ) (q : List ℕ) → has (b ∷ q) a ≡ true → (a ≡ b) ⊎ (has q a ≡ true)
 has-cases a b q h = go (or-cases (eqb a b) (has q a) h)
@@ -30,7 +26,7 @@ has-cases a b q h = go (or-cases (eqb a b) (has q a) h)
 has-tail : (a b : ℕ) (q : List ℕ) → has q a ≡ true → has (b ∷ q) a ≡ true
 has-tail a b q h = or-right (eqb a b) (has q a) h
 
-has-head : (a : ℕ) (q : List ℕ) → has (a ∷ q) a ≡ true
+pub has-head : (a : ℕ) (q : List ℕ) → has (a ∷ q) a ≡ true
 has-head a q = or-left (eqb a a) (has q a) (eq-eqb a a refl)
 
 -- ---- joining at the end

@@ -17,10 +17,11 @@ use Rattle.model.specs.Site.{Actor, Site, initial}
 use Rattle.model.specs.Step.{ready, step}
 use Rattle.model.specs.Schedule.{machine}
 use Rattle.model.specs.Bound.{total, actionCount}
+use Rattle.model.specs.Reached.{Reached}
 use Rattle.model.proofs.Invariant.{own-position, others-record}
 use Rattle.model.proofs.ReportBoundCounts.{total-le}
 use Rattle.model.proofs.Checks.{ready-parts}
-use Rattle.model.proofs.ReportBoundSite.{InBounds, bounds-initial, bounds-final}
+use Rattle.model.proofs.Reached.{reached-initial, reached-final}
 
 -- one number of a sum raised by one
 total-raised : (f g : ℕ → ℕ) (a n k : ℕ) → k ≤ a → a < k + n → g a ≡ suc (f a) → ((j : ℕ) → j ≢ a → g j ≡ f j)
@@ -67,15 +68,15 @@ module _ (table : List ℕ) where
         step-taken s a (first-ready (machine table) s a p h),
       )
 
-  -- from any start within bounds; and from a fresh site
-  pub schedule-most : (s : Site) (p : List ℕ) → InBounds table s → accepted (machine table) s p ≡ true → length p + taken s ≤ actionCount table
-  schedule-most s p i h =
+  -- from any start that is as reached; and from a fresh site
+  pub schedule-most : (s : Site) (p : List ℕ) → Reached table s → accepted (machine table) s p ≡ true → length p + taken s ≤ actionCount table
+  schedule-most s p r h =
       omega (
         arith,
         schedule-taken s p h,
         total-le (λ a. final (machine table) s p .actor a .position) (countOf table) (actorsOf table) 0
-            (λ a l b. bounds-final table s p i h .position-most a),
+            (λ a l b. reached-final table s p r h .position-most a),
       )
 
   pub entries-most : (p : List ℕ) → accepted (machine table) initial p ≡ true → length p ≤ actionCount table
-  entries-most p h = omega (arith, schedule-most initial p (bounds-initial table) h)
+  entries-most p h = omega (arith, schedule-most initial p (reached-initial table) h)

@@ -21,6 +21,14 @@ module _ {A B : Type 0} {eq : A → A → Bool} (E : Decides eq) where
   pub upd-other : (f : A → B) (j k : A) (v : B) → j ≢ k → upd eq f k v j ≡ f j
   upd-other f j k v h = rw (not-equal E j k h)
 
+  -- at any place: the changed one, with the new value, or another, with the old one
+  pub upd-at : (f : A → B) (j k : A) (v : B) → ((j ≡ k) × (upd eq f k v j ≡ v)) ⊎ ((j ≢ k) × (upd eq f k v j ≡ f j))
+  upd-at f j k v = go (which (eq j k))
+    where
+      go : (eq j k ≡ true) ⊎ (eq j k ≡ false) → ((j ≡ k) × (upd eq f k v j ≡ v)) ⊎ ((j ≢ k) × (upd eq f k v j ≡ f j))
+      go (inl t) = inl (E .equal j k t, rw t)
+      go (inr n) = inr (λ e. contrary (ap (λ (z : A). eq z k) e ∙ E .same k) n, rw n)
+
   pub upd-comm : (f : A → B) (k l : A) (v w : B) → k ≢ l → upd eq (upd eq f k v) l w ≡ upd eq (upd eq f l w) k v
   upd-comm f k l v w h = fun-ext (λ j. go j (which (eq j k)) (which (eq j l)))
     where

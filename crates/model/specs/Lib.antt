@@ -1,5 +1,6 @@
 -- Document 01 as definitions, in its order: the state, an action's views, stepping, the ready answer, the pair verdict, the state report, and
--- the outcome of each call for every input. Then what is proved of them: the four cases of the pair verdict, and demand 3.
+-- the outcome of each call for every input. Then what is proved of them: the four cases of the pair verdict, demand 3, what holds of every
+-- reached state, and that a report determines its state.
 pub mod Site
 pub mod Views
 pub mod Mutex
@@ -18,6 +19,8 @@ pub mod ReadyMask
 pub mod Demand3
 pub mod Refusals
 pub mod Bound
+pub mod Reached
+pub mod Determined
 pub mod Claims
 pub mod Cases
 pub mod Examples
