@@ -54,12 +54,12 @@ one-side table m x p q = true≢false (ap (λ (r : Port). eqSide (r .side) sends
 -- ---- equal reports
 
 -- what the report of a state takes to determine it
-pub record Written (table : List ℕ) (s : Site) : Type 0 where
+pub record Lossless (table : List ℕ) (s : Site) : Type 0 where
   pub reached : Reached table s
   pub eight : EightCells s
   pub small : SmallSite s
 
-module _ (table : List ℕ) (ok : WellFormed table) (s t : Site) (i : Written table s) (j : Written table t) where
+module _ (table : List ℕ) (ok : WellFormed table) (s t : Site) (i : Lossless table s) (j : Lossless table t) where
   both-sides : (m : ℕ) → boxQueue table s m ≡ boxQueue table t m
       → (s .mail .waiting (portOf m sends) ≡ t .mail .waiting (portOf m sends)) × (s .mail .waiting (portOf m receives) ≡ t .mail .waiting (portOf m receives))
   both-sides m e =

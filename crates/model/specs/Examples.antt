@@ -62,12 +62,12 @@ bodies [] = []
 bodies (x ∷ l) = joined x ++ bodies l
 
 -- the table of these actors, with so many mailboxes and mutexes; and with one of each
-abbrev pub siteOf : (mailboxes mutexes : ℕ) → List (List (List ℕ)) → List ℕ
-siteOf mailboxes mutexes actors =
+abbrev pub tableWith : (mailboxes mutexes : ℕ) → List (List (List ℕ)) → List ℕ
+tableWith mailboxes mutexes actors =
     (1 ∷ length actors ∷ mailboxes ∷ mutexes ∷ []) ++ (directory (4 + 4 * length actors) actors ++ bodies actors)
 
 abbrev pub site : List (List (List ℕ)) → List ℕ
-site actors = siteOf 1 1 actors
+site actors = tableWith 1 1 actors
 
 -- two actors
 abbrev pub two : (first second : List (List ℕ)) → List ℕ

@@ -5,7 +5,7 @@ use mathlib.Core.List.{List, [], _∷_}
 use Rattle.model.specs.Claims.{Claim, _⇒_, run, bytes, ran, written}
 use Rattle.model.specs.Calls.{gives}
 use Rattle.model.specs.Cases.{tableA}
-use Rattle.model.specs.Examples.{plain, sets, lists, lock, siteOf}
+use Rattle.model.specs.Examples.{plain, sets, lists, lock, tableWith}
 
 -- ---- table A, 0, 1, 0, 1
 
@@ -41,7 +41,7 @@ actorsB =
 
 -- with two mailboxes and two mutexes
 abbrev pub tableB : List ℕ
-tableB = siteOf 2 2 actorsB
+tableB = tableWith 2 2 actorsB
 
 -- 1·2 and 2·1 send; actor 2 locks before actor 0; 0·3 takes what 1·2 sent, the oldest; 0·4 finds it; 1·3 sends; 1·4 has not run
 abbrev pub orderB : List ℕ

@@ -21,7 +21,7 @@ use Rattle.model.specs.Report.{report}
 use Rattle.model.specs.Schedule.{machine, endState, firstNumbers, checkSchedule}
 use Rattle.model.specs.Calls.{Result, gives, refuses, answer, lentAfter, runChecks, runOf, readyChecks, readyOf}
 use Rattle.model.proofs.Checks.{checks-taken}
-use Rattle.model.proofs.ReportBoundSite.{bounds-end}
+use Rattle.model.proofs.Reached.{reached-end}
 use Rattle.model.proofs.ReportBound.{reports-fit}
 use Rattle.state.specs.State.{recordsOf, siteOf}
 use Rattle.play.specs.PlayParts.{Ended}
@@ -78,9 +78,9 @@ module _ {table schedule comms log heads tails entries lens names : List ℕ} {r
     where
       go : (ltb a (actorsOf table) ≡ true) ⊎ (ltb a (actorsOf table) ≡ false) → endState table schedule .actor a .position < 256
       go (inl h) =
-          let most = bounds-end table schedule all-taken .position-most a in
+          let most = reached-end table schedule all-taken .position-most a in
           let few = ok .actions-most a (ltb-true a (actorsOf table) h) in omega arith
-      go (inr h) = let none = bounds-end table schedule all-taken .absent-still a (ltb-false a (actorsOf table) h) in omega arith
+      go (inr h) = let none = reached-end table schedule all-taken .absent-still a (ltb-false a (actorsOf table) h) in omega arith
 
   pub reportable : (buffer : List ℕ) → 2912 ≤ length buffer → Reportable table (r .actors) comms log heads tails entries lens buffer
   reportable buffer room =

@@ -25,7 +25,7 @@ use Rattle.model.specs.Mutex.{join}
 use Rattle.model.specs.Local.{Seen, see, isSeen, local}
 use Rattle.model.specs.Step.{unfinished, passes, ready, step}
 use Rattle.model.specs.Schedule.{machine, RefusalNumbers, checkFrom, checkSchedule}
-use Rattle.model.proofs.ReportBoundSite.{bounds-end}
+use Rattle.model.proofs.Reached.{reached-end}
 use Rattle.model.proofs.ReportBoundCells.{cellsAfter-length}
 use Rattle.model.proofs.ReportBound.{entries-room}
 use Rattle.names.specs.InByte.{nameOf}
@@ -130,7 +130,7 @@ module _ {table schedule comms log heads tails entries lens names′ : List ℕ}
                   omega (arith, P .tail-room n);
               join-room = λ m.
                   subst (λ (q : ℕ → List ℕ). length (join (q m) a) ≤ 8) (sym (ap (λ (s : Site). s .queue) (P .site)))
-                  (join-most table (reached table schedule i) a (P .accepted-table) (bounds-end table (take i schedule) (P .taken)) in-table m);
+                  (join-most table (reached table schedule i) a (P .accepted-table) (reached-end table (take i schedule) (P .taken)) in-table m);
             }
 
         module _ {comms′ log′ heads′ tails′ entries′ lens′ : List ℕ} {s : Stepped}

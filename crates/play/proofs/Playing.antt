@@ -31,8 +31,8 @@ use Rattle.model.specs.Local.{see, local}
 use Rattle.model.specs.Step.{unfinished, passes, ready, step, perform}
 use Rattle.model.specs.Ready.{howMany}
 use Rattle.model.specs.Schedule.{machine, endState, RefusalNumbers, checkEntry, checkFrom, checkSchedule}
-use Rattle.model.proofs.ReportBoundSite.{InBounds, bounds-end}
-use Rattle.model.proofs.ReportBoundQueues.{Once, once-count, once-queueing, queueing-members}
+use Rattle.model.specs.Reached.{Once, Reached}
+use Rattle.model.proofs.ReportBoundQueues.{once-count, once-queueing, queueing-members}
 use Rattle.model.proofs.ReportBoundCounts.{howMany-most}
 use Rattle.model.proofs.ReportBoundLengths.{stepped-actor}
 use Rattle.model.proofs.ReportBound.{entries-room}
@@ -74,7 +74,7 @@ records-set actors a next h = fun-ext (λ j. go j (which (eqb j a)))
     go j (inr e) = rw e (ap recordOf (getD-set-other actors a j next freshActor (eqb-false j a e)))
 
 -- no queue outgrows eight by a Lock
-pub join-most : (table : List ℕ) (s : Site) (a : ℕ) → WellFormed table → InBounds table s → a < actorsOf table → (m : ℕ) → length (join (s .queue m) a) ≤ 8
+pub join-most : (table : List ℕ) (s : Site) (a : ℕ) → WellFormed table → Reached table s → a < actorsOf table → (m : ℕ) → length (join (s .queue m) a) ≤ 8
 join-most table s a ok i here m =
     let once : Once (join (s .queue m) a) = rw (eq-eqb m m refl) at (once-queueing (joins m) a (s .queue) (i .queued-once) m) in
     omega (arith, ok .actors-most, once-count (λ b. true) (actorsOf table) 0 (join (s .queue m) a) once member, howMany-most (λ b. true) (actorsOf table) 0)
