@@ -7,18 +7,18 @@ use Prim.Native.Nat.{ℕ, _<_, _≤_}
 use native.Mathlib.Omega.{arith}
 use borrow.Author.Tests.{eq-eqb, ne-eqb, eqb-false}
 use lib.Dec.{eqb}
-use Rattle.table.specs.Read.{posts}
+use Rattle.table.specs.Read.{postKind}
 use Rattle.table.proofs.Checks.{which}
 
-pub posts-below : (kind : ℕ) → kind < 3 → posts kind ≡ false
+pub posts-below : (kind : ℕ) → kind < 3 → postKind kind ≡ false
 posts-below kind h = simp (ne-eqb kind 3 (omega arith), ne-eqb kind 4 (omega arith))
 
-pub posts-above : (kind : ℕ) → 4 < kind → posts kind ≡ false
+pub posts-above : (kind : ℕ) → 4 < kind → postKind kind ≡ false
 posts-above kind h = simp (ne-eqb kind 3 (omega arith), ne-eqb kind 4 (omega arith))
 
-pub posts-between : (kind : ℕ) → 3 ≤ kind → kind ≤ 4 → posts kind ≡ true
+pub posts-between : (kind : ℕ) → 3 ≤ kind → kind ≤ 4 → postKind kind ≡ true
 posts-between kind low high = go (which (eqb kind 3))
   where
-    go : (eqb kind 3 ≡ true) ⊎ (eqb kind 3 ≡ false) → posts kind ≡ true
+    go : (eqb kind 3 ≡ true) ⊎ (eqb kind 3 ≡ false) → postKind kind ≡ true
     go (inl e) = simp e
     go (inr e) = simp (e, eq-eqb kind 4 (omega (arith, eqb-false kind 3 e)))

@@ -9,7 +9,8 @@ use mathlib.Core.List.{List}
 use lib.Dec.{eqb, ltb}
 use Rattle.table.specs.declared.Action.{Action}
 use Rattle.table.specs.Format.{actorsOf}
-use Rattle.trace.specs.Machine.{Name, Laws}
+use Rattle.trace.specs.Machine.{Name}
+use Rattle.trace.specs.Laws.{Laws}
 use Rattle.trace.specs.Order.{mem}
 use Rattle.trace.proofs.Bools.{contrary, both, and-left, and-right, or-left, or-right, or-cases, or-false-left, or-false-right}
 use Rattle.model.specs.Site.{upd, Actor, Port, opposite, eqPort, Mail, Site, name}

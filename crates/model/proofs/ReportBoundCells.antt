@@ -13,8 +13,8 @@ use Rattle.table.specs.declared.Action.the-variants.{Set, Add, Lesser, Send, Re
 use Rattle.trace.specs.Schedule.{final}
 use Rattle.trace.proofs.Bools.{which}
 use Rattle.model.specs.Site.{Site, name, initial}
-use Rattle.model.specs.Views.{looks}
-use Rattle.model.specs.Local.{Seen, unseen, seen, see, pickUp, pickUpSeen, cellsAfter, local}
+use Rattle.model.specs.Views.{looks, pickUp}
+use Rattle.model.specs.Local.{Seen, unseen, seen, see, pickUpSeen, cellsAfter, local}
 use Rattle.model.specs.Step.{actionAt, nextAction, step}
 use Rattle.model.specs.Schedule.{machine, endState}
 use Rattle.model.proofs.Upd.{upd-same}

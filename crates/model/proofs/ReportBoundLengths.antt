@@ -15,7 +15,8 @@ use Rattle.table.specs.declared.Action.the-variants.{Set, Add, Lesser, Send, Re
 use Rattle.table.specs.Format.{actorsOf, countOf}
 use Rattle.table.specs.Promise.{isPost}
 use Rattle.trace.specs.Machine.{Name}
-use Rattle.trace.specs.Order.{mem, count}
+use Rattle.trace.specs.Order.{mem}
+use Rattle.trace.specs.Inversions.{count}
 use Rattle.trace.specs.Order.{has}
 use Rattle.trace.proofs.Bools.{which}
 use Rattle.model.specs.Site.{Side, sends, receives, Port, Site, name}

@@ -12,7 +12,8 @@ use borrow.Author.Tests.{eqb-true, eqb-false}
 use lib.ListN.{length}
 use Rattle.table.specs.Format.{actorsOf, countOf}
 use Rattle.trace.specs.Machine.{Name}
-use Rattle.trace.specs.Order.{mem, count, Distinct}
+use Rattle.trace.specs.Order.{mem, Distinct}
+use Rattle.trace.specs.Inversions.{count}
 use Rattle.trace.specs.Route.{remove}
 use Rattle.trace.proofs.Bools.{which, contrary}
 use Rattle.trace.proofs.Names.{mem-head, mem-tail, mem-cases}

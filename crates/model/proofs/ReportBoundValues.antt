@@ -20,9 +20,9 @@ use Rattle.trace.specs.Order.{eqName}
 use Rattle.trace.specs.Schedule.{final}
 use Rattle.trace.proofs.Bools.{which}
 use Rattle.model.specs.Site.{upd, Side, sends, receives, Port, opposite, Comm, Mail, Site, name, initial}
-use Rattle.model.specs.Views.{listed, Post, silent, mails, joins, leaves, posts, looks, sent}
+use Rattle.model.specs.Views.{listed, Post, silent, mails, joins, leaves, posts, looks, sent, pickUp}
 use Rattle.model.specs.Mail.{carried, pairValue, meetWith, mailing}
-use Rattle.model.specs.Local.{Seen, unseen, seen, first, see, placeSeen, pickUp, pickUpSeen, cellsAfter}
+use Rattle.model.specs.Local.{Seen, unseen, seen, first, see, placeSeen, pickUpSeen, cellsAfter}
 use Rattle.model.specs.Step.{actionAt, nextName, nextAction, step}
 use Rattle.model.specs.Schedule.{machine, endState}
 use Rattle.model.proofs.Invariant.{others-record}

@@ -37,14 +37,14 @@ abbrev pub line : List ℕ → List ℕ
 line text = text ++ (10 ∷ [])
 
 -- the ending's word
-abbrev pub word : Ending → List ℕ
-word finished = 102 ∷ 105 ∷ 110 ∷ 105 ∷ 115 ∷ 104 ∷ 101 ∷ 100 ∷ []
-word stuck = 115 ∷ 116 ∷ 117 ∷ 99 ∷ 107 ∷ []
-word going = 103 ∷ 111 ∷ 105 ∷ 110 ∷ 103 ∷ []
+abbrev pub endingWord : Ending → List ℕ
+endingWord finished = 102 ∷ 105 ∷ 110 ∷ 105 ∷ 115 ∷ 104 ∷ 101 ∷ 100 ∷ []
+endingWord stuck = 115 ∷ 116 ∷ 117 ∷ 99 ∷ 107 ∷ []
+endingWord going = 103 ∷ 111 ∷ 105 ∷ 110 ∷ 103 ∷ []
 
 -- `end ` and the ending
 abbrev pub endText : Ending → List ℕ
-endText e = 101 ∷ 110 ∷ 100 ∷ space ∷ word e
+endText e = 101 ∷ 110 ∷ 100 ∷ space ∷ endingWord e
 
 -- `refused `, then ` at ` between number and position
 abbrev pub refusedText : (number position : ℕ) → List ℕ

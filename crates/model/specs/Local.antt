@@ -7,7 +7,7 @@ use lib.ListN.{getD, set}
 use Rattle.table.specs.declared.Action.{Action}
 use Rattle.table.specs.declared.Action.the-variants.{Set, Add, Lesser, Send, Receive, TestAny, WaitAny, Lock, Unlock, MutexTest, MutexWait}
 use Rattle.model.specs.Site.{Actor, Site, name}
-use Rattle.model.specs.Views.{Look, blind, communications, mutexes}
+use Rattle.model.specs.Views.{Look, blind, communications, mutexes, pickUp}
 use Rattle.model.specs.Mutex.{owns}
 use Rattle.model.specs.Mail.{isDone, carried}
 
@@ -36,20 +36,6 @@ isSeen (seen place number value) = true
 abbrev pub placeSeen : Seen → ℕ
 placeSeen unseen = 0
 placeSeen (seen place number value) = place
-
--- the value picked up goes into a Receive's cell; of any other action nothing is picked up
-abbrev pub pickUp : Action → ℕ → List ℕ → List ℕ
-pickUp (Set cell value) v cells = cells
-pickUp (Add cell other) v cells = cells
-pickUp (Lesser cell other) v cells = cells
-pickUp (Send mailbox cell) v cells = cells
-pickUp (Receive mailbox cell) v cells = set cells cell v
-pickUp (TestAny result list) v cells = cells
-pickUp (WaitAny result list) v cells = cells
-pickUp (Lock mutex) v cells = cells
-pickUp (Unlock mutex) v cells = cells
-pickUp (MutexTest result list) v cells = cells
-pickUp (MutexWait result list) v cells = cells
 
 -- the communication that the look found is picked up; `own` gives the actor's actions by number
 abbrev pub pickUpSeen : (ℕ → Action) → Seen → List ℕ → List ℕ

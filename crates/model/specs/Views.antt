@@ -1,10 +1,10 @@
--- An action seen through views, so that what follows goes by a few cases and not by eleven kinds: what it posts, what it looks at, whether it waits
--- for what it looks at, and the value that it sends.
+-- What an action does, one line a kind, so that what follows goes by a few cases and not by eleven kinds: what it posts, what it looks at, whether it
+-- waits for what it looks at, the value that it sends, and where a value that is picked up goes.
 -- Assumes nothing: these are definitions.
 use Prim.Native.Nat.{ℕ}
 use mathlib.Core.Bool.{Bool, true, false}
 use mathlib.Core.List.{List, [], _∷_}
-use lib.ListN.{getD, take}
+use lib.ListN.{getD, set, take}
 use Rattle.table.specs.declared.Action.{Action}
 use Rattle.table.specs.declared.Action.the-variants.{Set, Add, Lesser, Send, Receive, TestAny, WaitAny, Lock, Unlock, MutexTest, MutexWait}
 use Rattle.table.specs.declared.Numbers.{Numbers}
@@ -20,61 +20,54 @@ pub data Post : Type 0 where
   mails : Port → Post
   joins leaves : (mutex : ℕ) → Post
 
-abbrev pub posts : Action → Post
-posts (Set cell value) = silent
-posts (Add cell other) = silent
-posts (Lesser cell other) = silent
-posts (Send mailbox cell) = mails (record { mailbox = mailbox; side = sends })
-posts (Receive mailbox cell) = mails (record { mailbox = mailbox; side = receives })
-posts (TestAny result list) = silent
-posts (WaitAny result list) = silent
-posts (Lock mutex) = joins mutex
-posts (Unlock mutex) = leaves mutex
-posts (MutexTest result list) = silent
-posts (MutexWait result list) = silent
-
 -- what a step looks at: nothing; the communications of its own actor's actions; mutexes
 pub data Look : Type 0 where
   blind : Look
   communications mutexes : (list : List ℕ) → Look
 
+pub record View : Type 0 where
+  pub post : Post
+  pub look : Look
+  -- it waits until the look finds something: only such a step is not always ready
+  pub waiting : Bool
+  -- the value that a Send keeps, from its actor's cells; 0 for the others
+  pub sent : List ℕ → ℕ
+  -- the cells after the value of this communication was picked up: only a Receive's changes them
+  pub picked : (value : ℕ) (cells : List ℕ) → List ℕ
+
+-- a step that posts and does nothing else, and one that looks
+abbrev pub posting : Post → View
+posting post = record { post = post; look = blind; waiting = false; sent = λ cells. 0; picked = λ value cells. cells }
+
+abbrev pub looking : Look → Bool → View
+looking look waiting = record { post = silent; look = look; waiting = waiting; sent = λ cells. 0; picked = λ value cells. cells }
+
+abbrev pub viewOf : Action → View
+viewOf (Set cell value) = posting silent
+viewOf (Add cell other) = posting silent
+viewOf (Lesser cell other) = posting silent
+viewOf (Send mailbox cell) =
+    record { post = mails (record { mailbox = mailbox; side = sends }); look = blind; waiting = false; sent = λ cells. getD cells cell 0; picked = λ value cells. cells }
+viewOf (Receive mailbox cell) =
+    record { post = mails (record { mailbox = mailbox; side = receives }); look = blind; waiting = false; sent = λ cells. 0; picked = λ value cells. set cells cell value }
+viewOf (TestAny result list) = looking (communications (listed list)) false
+viewOf (WaitAny result list) = looking (communications (listed list)) true
+viewOf (Lock mutex) = posting (joins mutex)
+viewOf (Unlock mutex) = posting (leaves mutex)
+viewOf (MutexTest result list) = looking (mutexes (listed list)) false
+viewOf (MutexWait result list) = looking (mutexes (listed list)) true
+
+abbrev pub posts : Action → Post
+posts x = viewOf x .post
+
 abbrev pub looks : Action → Look
-looks (Set cell value) = blind
-looks (Add cell other) = blind
-looks (Lesser cell other) = blind
-looks (Send mailbox cell) = blind
-looks (Receive mailbox cell) = blind
-looks (TestAny result list) = communications (listed list)
-looks (WaitAny result list) = communications (listed list)
-looks (Lock mutex) = blind
-looks (Unlock mutex) = blind
-looks (MutexTest result list) = mutexes (listed list)
-looks (MutexWait result list) = mutexes (listed list)
+looks x = viewOf x .look
 
--- kinds 0, 1, 2, 5, 9, 3, 4, 7 and 8 are always ready; a WaitAny and a MutexWait wait until the look finds something
 abbrev pub waits : Action → Bool
-waits (Set cell value) = false
-waits (Add cell other) = false
-waits (Lesser cell other) = false
-waits (Send mailbox cell) = false
-waits (Receive mailbox cell) = false
-waits (TestAny result list) = false
-waits (WaitAny result list) = true
-waits (Lock mutex) = false
-waits (Unlock mutex) = false
-waits (MutexTest result list) = false
-waits (MutexWait result list) = true
+waits x = viewOf x .waiting
 
--- the value that a Send keeps: its cell's
 abbrev pub sent : Action → List ℕ → ℕ
-sent (Set cell value) cells = 0
-sent (Add cell other) cells = 0
-sent (Lesser cell other) cells = 0
-sent (Send mailbox cell) cells = getD cells cell 0
-sent (Receive mailbox cell) cells = 0
-sent (TestAny result list) cells = 0
-sent (WaitAny result list) cells = 0
-sent (Lock mutex) cells = 0
-sent (Unlock mutex) cells = 0
-sent (MutexTest result list) cells = 0
-sent (MutexWait result list) cells = 0
+sent x = viewOf x .sent
+
+abbrev pub pickUp : Action → (value : ℕ) (cells : List ℕ) → List ℕ
+pickUp x = viewOf x .picked

@@ -14,7 +14,8 @@ use Rattle.table.specs.Decode.{actionOf}
 use Rattle.table.specs.Promise.{WellFormed, InRange}
 use Rattle.trace.specs.Machine.{Name}
 use Rattle.model.specs.Site.{name}
-use Rattle.model.specs.Local.{Seen, unseen, seen, pickUp, pickUpSeen, cellsAfter, local}
+use Rattle.model.specs.Views.{pickUp}
+use Rattle.model.specs.Local.{Seen, unseen, seen, pickUpSeen, cellsAfter, local}
 use Rattle.state.specs.State.{recordOf, nextOf}
 use Rattle.names.specs.InByte.{nameOf}
 use Rattle.step.specs.StepParts.{Steppable}

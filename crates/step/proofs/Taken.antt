@@ -14,10 +14,10 @@ use Rattle.table.specs.Decode.{actionOf}
 use Rattle.table.specs.Promise.{WellFormed, InRange, Listing, LowerPost, number}
 use Rattle.trace.specs.Machine.{Name}
 use Rattle.model.specs.Site.{Mail, Port, name}
-use Rattle.model.specs.Views.{Post, silent, mails, posts, looks, sent, listed}
+use Rattle.model.specs.Views.{Post, silent, mails, posts, looks, sent, listed, pickUp}
 use Rattle.model.specs.Mail.{mailing, meet}
 use Rattle.model.specs.Mutex.{queueing}
-use Rattle.model.specs.Local.{Seen, unseen, seen, first, see, pickUp, pickUpSeen, cellsAfter}
+use Rattle.model.specs.Local.{Seen, unseen, seen, first, see, pickUpSeen, cellsAfter}
 use Rattle.model.specs.Step.{passes}
 use Rattle.names.specs.InByte.{nameOf}
 use Rattle.state.specs.State.{recordOf, mailOf, queuesOf, MailRoom, QueueRoom, nextOf, seenFrom}

@@ -14,7 +14,7 @@ use Rattle.table.specs.Outcome.{Outcome, accepted, demand, _⨾_, each}
 use Rattle.table.specs.Format.{editionOf, actorsOf, mailboxesOf, mutexesOf, offsetOf, countOf, dueOf, placeOf, kindAt, pAt, qAt, zAt, listedAt}
 use Rattle.table.specs.Kinds.{Form, formOf, lastKind, actions, mutexes, mutex}
 use Rattle.table.specs.Decode.{numbersAt, decodeAs, actionOf}
-use Rattle.table.specs.Read.{headerOf, directoryOf, endOf, actionsOf, actorOf, checkOf, entryOf, readOf, fieldsOf, fits, listFits, listAllowed, clear, restClear, allowed, posts}
+use Rattle.table.specs.Read.{headerOf, directoryOf, endOf, actionsOf, actorOf, checkOf, entryOf, readOf, fieldsOf, fits, listFits, listAllowed, clear, restClear, allowed, postKind}
 use Rattle.table.specs.Promise.{number, Listing, isPost, LowerPost, InRange, WellFormed}
 use Rattle.table.proofs.Checks.{which, then-left, then-right, demand-true, and-left, and-right, each-at}
 use Rattle.table.proofs.Placed.{count-most, inside}
@@ -28,7 +28,7 @@ number-at b at (suc (suc (suc zero))) h = refl
 number-at b at (suc (suc (suc (suc i)))) h = absurd (omega arith)
 
 -- an action of kind 3 or 4 is a Send or a Receive
-post-decoded : (b : List ℕ) (at kind : ℕ) → posts kind ≡ true → isPost (decodeAs kind b at) ≡ true
+post-decoded : (b : List ℕ) (at kind : ℕ) → postKind kind ≡ true → isPost (decodeAs kind b at) ≡ true
 unfolding decodeAs
 post-decoded b at kind h = go (which (eqb kind 3)) (which (eqb kind 4))
   where
@@ -85,8 +85,8 @@ module _ (b : List ℕ) (actor k : ℕ) where
           let x : ℕ = listedAt b at i in
           let ok : allowed b first k x ≡ true =
           demand-true _ 8 at (rw zero-add at (each-at (λ j. demand (allowed b first k (listedAt b at j)) 8 at) (zAt b at) 0 listed i h)) in (
-            ltb-true _ _ (and-left (ltb x k) (posts (kindAt b (placeOf first x))) ok),
-            post-decoded b (placeOf first x) (kindAt b (placeOf first x)) (and-right (ltb x k) (posts (kindAt b (placeOf first x))) ok),
+            ltb-true _ _ (and-left (ltb x k) (postKind (kindAt b (placeOf first x))) ok),
+            post-decoded b (placeOf first x) (kindAt b (placeOf first x)) (and-right (ltb x k) (postKind (kindAt b (placeOf first x))) ok),
           )
 
   all-mutexes : listFits b at mutexes ≡ accepted → Listing (λ m. m < mutexesOf b) (numbersAt b at)

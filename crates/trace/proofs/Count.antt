@@ -8,7 +8,8 @@ use mathlib.Core.Bool.{Bool, true, false, cond, false≢true}
 use mathlib.Core.List.{List, [], _∷_}
 use lib.ListN.{length}
 use Rattle.trace.specs.Machine.{Name}
-use Rattle.trace.specs.Order.{eqName, mem, count}
+use Rattle.trace.specs.Order.{eqName, mem}
+use Rattle.trace.specs.Inversions.{count}
 use Rattle.trace.specs.Chain.{swapAt}
 use Rattle.trace.specs.Route.{remove}
 use Rattle.trace.proofs.Bools.{which}

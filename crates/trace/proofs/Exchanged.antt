@@ -6,7 +6,8 @@ use mathlib.Core.Logic.{_≢_}
 use mathlib.Core.Bool.{true, false, false≢true}
 use mathlib.Core.List.{List, [], _∷_}
 use borrow.Author.Tests.{not-true}
-use Rattle.trace.specs.Machine.{Machine, Laws, Name, nameOf}
+use Rattle.trace.specs.Machine.{Machine, Name, nameOf}
+use Rattle.trace.specs.Laws.{Laws}
 use Rattle.trace.specs.Schedule.{accepted, final, names}
 use Rattle.trace.specs.Chain.{swapAt, independentAt}
 use Rattle.trace.proofs.Bools.{contrary, both}

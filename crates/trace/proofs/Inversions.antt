@@ -9,7 +9,8 @@ use mathlib.Core.Bool.{Bool, true, false, and-false, false≢true}
 use mathlib.Core.List.{List, [], _∷_}
 use lib.ListN.{length, length-append}
 use Rattle.trace.specs.Machine.{Name}
-use Rattle.trace.specs.Order.{eqName, mem, before, count, inversions, Distinct}
+use Rattle.trace.specs.Order.{eqName, mem, before, Distinct}
+use Rattle.trace.specs.Inversions.{count, inversions}
 use Rattle.trace.specs.Chain.{swapAt}
 use Rattle.trace.specs.Route.{place, remove, pull, routeFrom}
 use Rattle.trace.proofs.Bools.{which, contrary, is-false, or-false-right}

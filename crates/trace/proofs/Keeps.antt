@@ -6,7 +6,8 @@ use mathlib.Core.Bool.{true}
 use mathlib.Core.List.{List, [], _∷_, map}
 use lib.ListN.{length, take}
 use lib.Seq.{take-length}
-use Rattle.trace.specs.Machine.{Machine, Laws, Name}
+use Rattle.trace.specs.Machine.{Machine, Name}
+use Rattle.trace.specs.Laws.{Laws}
 use Rattle.trace.specs.Schedule.{accepted, final, names}
 use Rattle.trace.specs.Chain.{swapAt, Exchange, Chain, replay}
 use Rattle.trace.specs.Theorems.{KeepsRun}

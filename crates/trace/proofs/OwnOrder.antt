@@ -9,7 +9,8 @@ use mathlib.Core.Bool.{true, false, false≢true}
 use mathlib.Core.List.{List, [], _∷_}
 use borrow.Author.Tests.{eqb-true, eqb-false}
 use lib.Dec.{eqb}
-use Rattle.trace.specs.Machine.{Machine, Laws, Name, nameOf}
+use Rattle.trace.specs.Machine.{Machine, Name, nameOf}
+use Rattle.trace.specs.Laws.{Laws}
 use Rattle.trace.specs.Schedule.{accepted, names}
 use Rattle.trace.specs.Order.{mem, before}
 use Rattle.trace.proofs.Bools.{which, is-false}

@@ -10,7 +10,8 @@ use mathlib.Core.List.{List, [], _∷_, _++_, map}
 use borrow.Author.Tests.{eqb-true, eqb-false}
 use lib.Dec.{eqb}
 use lib.ListN.{length}
-use Rattle.trace.specs.Machine.{Machine, Laws, Name, nameOf}
+use Rattle.trace.specs.Machine.{Machine, Name, nameOf}
+use Rattle.trace.specs.Laws.{Laws}
 use Rattle.trace.specs.Schedule.{accepted, final, names}
 use Rattle.trace.specs.Order.{mem, Distinct, has}
 use Rattle.trace.specs.Theorems.{StaysReady}

@@ -6,7 +6,8 @@ use mathlib.Core.Logic.{_↔_}
 use mathlib.Core.Bool.{true, false}
 use mathlib.Core.List.{List, []}
 use lib.ListN.{length}
-use Rattle.trace.specs.Machine.{Machine, Laws, Name}
+use Rattle.trace.specs.Machine.{Machine, Name}
+use Rattle.trace.specs.Laws.{Laws}
 use Rattle.trace.specs.Schedule.{accepted, names}
 use Rattle.trace.specs.Order.{before, within}
 use Rattle.trace.specs.Chain.{Chain, Chained}

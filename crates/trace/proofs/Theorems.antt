@@ -5,9 +5,10 @@ use mathlib.Core.Path.{_≡_}
 use mathlib.Core.Bool.{true}
 use mathlib.Core.List.{List}
 use lib.ListN.{length}
-use Rattle.trace.specs.Machine.{Machine, Laws}
+use Rattle.trace.specs.Machine.{Machine}
+use Rattle.trace.specs.Laws.{Laws}
 use Rattle.trace.specs.Schedule.{accepted, names}
-use Rattle.trace.specs.Order.{inversions}
+use Rattle.trace.specs.Inversions.{inversions}
 use Rattle.trace.specs.Chain.{Chain}
 use Rattle.trace.specs.Same.{equivalent}
 use Rattle.trace.specs.Route.{route}

@@ -1,6 +1,8 @@
 pub mod Machine
+pub mod Laws
 pub mod Schedule
 pub mod Order
+pub mod Inversions
 pub mod Chain
 pub mod Same
 pub mod Route

@@ -1,8 +1,8 @@
 -- Lists of step names: which names they hold, and in which order.
 -- Assumes nothing: these are definitions.
-use Prim.Native.Nat.{ℕ, zero, _+_}
+use Prim.Native.Nat.{ℕ}
 use mathlib.Core.Path.{_≡_}
-use mathlib.Core.Bool.{Bool, true, false, _&&_, _||_, cond}
+use mathlib.Core.Bool.{Bool, true, false, _&&_, _||_}
 use mathlib.Core.List.{List, [], _∷_}
 use lib.Dec.{eqb}
 use Rattle.trace.specs.Machine.{Name}
@@ -35,17 +35,6 @@ Distinct (x ∷ l) = (mem x l ≡ false) × Distinct l
 abbrev pub any : (Name → Bool) → List Name → Bool
 any f [] = false
 any f (x ∷ l) = f x || any f l
-
--- how many members pass the test
-abbrev pub count : (Name → Bool) → List Name → ℕ
-count f [] = zero
-count f (x ∷ l) = cond (f x) 1 0 + count f l
-
--- how many pairs the two lists hold in opposite orders (the inversions of one against the other): x before y in the first, y before x in
--- the second
-abbrev pub inversions : List Name → List Name → ℕ
-inversions [] v = zero
-inversions (x ∷ u) v = count (λ y. before y x v) u + inversions u v
 
 -- an actor has an entry in a schedule
 abbrev pub has : List ℕ → ℕ → Bool

@@ -9,7 +9,8 @@ use mathlib.Core.List.{List, [], _∷_, _++_}
 use lib.ListN.{length, take}
 use Rattle.trace.specs.Machine.{Machine}
 use Rattle.trace.specs.Schedule.{accepted, final, names}
-use Rattle.trace.specs.Order.{inversions, has}
+use Rattle.trace.specs.Order.{has}
+use Rattle.trace.specs.Inversions.{inversions}
 use Rattle.trace.specs.Chain.{Chain, Chained, replay}
 use Rattle.trace.specs.Same.{equivalent}
 use Rattle.trace.specs.Route.{route}
