@@ -43,23 +43,23 @@ pub fn communications(comms: &[u64; 256], a: usize, list: table::Numbers) -> See
 }
 
 // The first listed mutex that an actor owns.
-pub fn mutexes(entries: &[u8; 64], lens: &[usize; 8], a: usize, list: table::Numbers) -> Seen
-    requires { ⌜ QueueRoom (now entries) (now lens) × ((i : ℕ) → i < list .count → numberAt list i < 8) ⌝ }
-    ensures { λ r. ⌜ seenOf r ≡ mutexesSeen (now (entries .entry)) (now (lens .entry)) a 1 (listed list) ⌝ }
+pub fn mutexes(queues: &[u8; 72], a: usize, list: table::Numbers) -> Seen
+    requires { ⌜ QueueRoom (now queues) × ((i : ℕ) → i < list .count → numberAt list i < 8) ⌝ }
+    ensures { λ r. ⌜ seenOf r ≡ mutexesSeen (now (queues .entry)) a 1 (listed list) ⌝ }
 {
-    let seen = owned(entries, lens, a, list.count, 1, list.n0);
+    let seen = owned(queues, a, list.count, 1, list.n0);
     let Seen::Unseen = seen else {
         return seen;
     };
-    let seen = owned(entries, lens, a, list.count, 2, list.n1);
+    let seen = owned(queues, a, list.count, 2, list.n1);
     let Seen::Unseen = seen else {
         return seen;
     };
-    let seen = owned(entries, lens, a, list.count, 3, list.n2);
+    let seen = owned(queues, a, list.count, 3, list.n2);
     let Seen::Unseen = seen else {
         return seen;
     };
-    owned(entries, lens, a, list.count, 4, list.n3)
+    owned(queues, a, list.count, 4, list.n3)
 }
 
 // One place of a list of `count` numbers: communication k, if the list has the place and the communication is done.
@@ -83,21 +83,20 @@ fn communication(comms: &[u64; 256], a: usize, count: usize, place: usize, k: us
 
 // The same of mutex m, if the actor owns it.
 fn owned(
-    entries: &[u8; 64],
-    lens: &[usize; 8],
+    queues: &[u8; 72],
     a: usize,
     count: usize,
     place: usize,
     m: usize,
 ) -> Seen
-    requires { ⌜ QueueRoom (now entries) (now lens) × (place ≤ count → m < 8) ⌝ }
+    requires { ⌜ QueueRoom (now queues) × (place ≤ count → m < 8) ⌝ }
     ensures { λ r. ⌜ seenOf r
-        ≡ cond (leb place count) (mutexesSeen (now (entries .entry)) (now (lens .entry)) a place (m ∷ [])) unseen ⌝ }
+        ≡ cond (leb place count) (mutexesSeen (now (queues .entry)) a place (m ∷ [])) unseen ⌝ }
 {
     if count < place {
         return Seen::Unseen;
     }
-    if mutex::owner(entries, lens, m, a) {
+    if mutex::owner(queues, m, a) {
         return Seen::At {
             place,
             number: m,

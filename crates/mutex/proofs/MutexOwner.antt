@@ -11,12 +11,12 @@ use lib.Seq.{drop-cons}
 use Rattle.model.specs.Mutex.{owns}
 use Rattle.state.specs.State.{queuesOf, QueueRoom}
 
-pub owner-none : (entries lens : List ℕ) (m a : ℕ) → getD lens m 0 ≡ 0 → false ≡ owns (queuesOf entries lens m) a
-owner-none entries lens m a e = sym (ap (λ (n : ℕ). owns (take n (drop (8 * m) entries)) a) e)
+pub owner-none : (queues : List ℕ) (m a : ℕ) → getD lens m 0 ≡ 0 → false ≡ owns (queuesOf queues m) a
+owner-none queues m a e = sym (ap (λ (n : ℕ). owns (take n (drop (8 * m) entries)) a) e)
 
-pub owner-first : (entries lens : List ℕ) (m a : ℕ) → QueueRoom entries lens → m < 8 → (getD lens m 0 ≡ 0 → ⊥)
-    → eqb a (getD entries (8 * m) 0) ≡ owns (queuesOf entries lens m) a
-owner-first entries lens m a room known some =
+pub owner-first : (queues : List ℕ) (m a : ℕ) → QueueRoom queues → m < 8 → (getD lens m 0 ≡ 0 → ⊥)
+    → eqb a (getD entries (8 * m) 0) ≡ owns (queuesOf queues m) a
+owner-first queues m a room known some =
     let more : getD lens m 0 ≡ suc (getD lens m 0 - 1) = omega arith in
     let inside : 8 * m < length entries = omega arith in
     sym

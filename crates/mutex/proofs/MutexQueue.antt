@@ -43,8 +43,8 @@ upd-same {B} f m v e = fun-ext (λ j. go j (which (eqb j m)))
     go j (inl t) = ap f (eqb-true j m t) ∙ sym e ∙ sym (ap (λ (b : Bool). cond b v (f j)) t)
     go j (inr t) = sym (ap (λ (b : Bool). cond b v (f j)) t)
 
-module _ (entries lens : List ℕ) (m : ℕ) (room : QueueRoom entries lens) (known : m < 8) where
-  pub queue-length : length (queuesOf entries lens m) ≡ getD lens m 0
+module _ (queues : List ℕ) (m : ℕ) (room : QueueRoom queues) (known : m < 8) where
+  pub queue-length : length (queuesOf queues m) ≡ getD lens m 0
   queue-length =
       let short : getD lens m 0 ≤ 8 = room .bounded m in
       let inside : getD lens m 0 ≤ length (drop (8 * m) entries) = rw length-drop (omega arith) in
@@ -53,7 +53,7 @@ module _ (entries lens : List ℕ) (m : ℕ) (room : QueueRoom entries lens) (kn
   module _ (after : List ℕ) (n : ℕ) where
     -- no other queue changes
     other : take (8 * m) after ≡ take (8 * m) entries → drop (8 * m + 8) after ≡ drop (8 * m + 8) entries → (j : ℕ) → (j ≡ m → ⊥)
-        → queuesOf after (set lens m n) j ≡ queuesOf entries lens j
+        → queuesOf after (set lens m n) j ≡ queuesOf queues j
     other before behind j differs =
         ap (λ (k : ℕ). take k (drop (8 * j) after)) (getD-set-other lens m j n 0 differs) ∙ go (which (ltb j m))
       where
@@ -68,20 +68,20 @@ module _ (entries lens : List ℕ) (m : ℕ) (room : QueueRoom entries lens) (kn
             ap (take (getD lens j 0)) (part-behind (8 * j) (8 * m + 8) entries after apart behind)
 
     pub changed : (q : List ℕ) → take (8 * m) after ≡ take (8 * m) entries → drop (8 * m + 8) after ≡ drop (8 * m + 8) entries
-        → take n (drop (8 * m) after) ≡ q → queuesOf after (set lens m n) ≡ upd eqb (queuesOf entries lens) m q
+        → take n (drop (8 * m) after) ≡ q → queuesOf after (set lens m n) ≡ upd eqb (queuesOf queues) m q
     changed q before behind is = fun-ext (λ j. go j (which (eqb j m)))
       where
         here : m < length lens
         here = omega arith
 
-        go : (j : ℕ) → (eqb j m ≡ true) ⊎ (eqb j m ≡ false) → queuesOf after (set lens m n) j ≡ cond (eqb j m) q (queuesOf entries lens j)
+        go : (j : ℕ) → (eqb j m ≡ true) ⊎ (eqb j m ≡ false) → queuesOf after (set lens m n) j ≡ cond (eqb j m) q (queuesOf queues j)
         go j (inl t) =
             ap (queuesOf after (set lens m n)) (eqb-true j m t)
             ∙ ap (λ (k : ℕ). take k (drop (8 * m) after)) (getD-set-same lens m n 0 here)
             ∙ is
-            ∙ sym (ap (λ (b : Bool). cond b q (queuesOf entries lens j)) t)
+            ∙ sym (ap (λ (b : Bool). cond b q (queuesOf queues j)) t)
         go j (inr t) =
-            other before behind j (eqb-false j m t) ∙ sym (ap (λ (b : Bool). cond b q (queuesOf entries lens j)) t)
+            other before behind j (eqb-false j m t) ∙ sym (ap (λ (b : Bool). cond b q (queuesOf queues j)) t)
 
     pub room-kept : length after ≡ 64 → n ≤ 8 → QueueRoom after (set lens m n)
     room-kept long short = record { entries-long = long; lens-long = length-set lens m n ∙ room .lens-long; bounded = λ j. go j (which (eqb j m)) }

@@ -17,31 +17,31 @@ use Rattle.writing.proofs.Stored.{stored}
 use Rattle.mutex.proofs.MutexQueue.{upd-same, part-behind, queue-length, changed, room-kept}
 
 -- the queues are the model's with queue m changed, and have room
-abbrev pub Becomes : (entries lens after counts : List ℕ) → ℕ → List ℕ → Type 0
-Becomes entries lens after counts m q = (queuesOf after counts ≡ upd eqb (queuesOf entries lens) m q) × QueueRoom after counts
+abbrev pub Becomes : (queues after counts : List ℕ) → ℕ → List ℕ → Type 0
+Becomes queues after counts m q = (queuesOf after counts ≡ upd eqb (queuesOf queues) m q) × QueueRoom after counts
 
-module _ (entries lens : List ℕ) (m a : ℕ) (room : QueueRoom entries lens) (known : m < 8) where
+module _ (queues : List ℕ) (m a : ℕ) (room : QueueRoom queues) (known : m < 8) where
   -- the actor is queued already
-  pub stays : has (queuesOf entries lens m) a ≡ true → Becomes entries lens entries lens m (join (queuesOf entries lens m) a)
+  pub stays : has (queuesOf queues m) a ≡ true → Becomes queues queues m (join (queuesOf queues m) a)
   stays h =
-      let same : join (queuesOf entries lens m) a ≡ queuesOf entries lens m
-      = ap (λ (b : Bool). cond b (queuesOf entries lens m) (queuesOf entries lens m ++ (a ∷ []))) h in
-      (upd-same (queuesOf entries lens) m (join (queuesOf entries lens m) a) same, room)
+      let same : join (queuesOf queues m) a ≡ queuesOf queues m
+      = ap (λ (b : Bool). cond b (queuesOf queues m) (queuesOf queues m ++ (a ∷ []))) h in
+      (upd-same (queuesOf queues) m (join (queuesOf queues m) a) same, room)
 
-  module _ (absent : has (queuesOf entries lens m) a ≡ false) (fits : length (join (queuesOf entries lens m) a) ≤ 8) where
-    joins-end : join (queuesOf entries lens m) a ≡ queuesOf entries lens m ++ (a ∷ [])
-    joins-end = ap (λ (b : Bool). cond b (queuesOf entries lens m) (queuesOf entries lens m ++ (a ∷ []))) absent
+  module _ (absent : has (queuesOf queues m) a ≡ false) (fits : length (join (queuesOf queues m) a) ≤ 8) where
+    joins-end : join (queuesOf queues m) a ≡ queuesOf queues m ++ (a ∷ [])
+    joins-end = ap (λ (b : Bool). cond b (queuesOf queues m) (queuesOf queues m ++ (a ∷ []))) absent
 
     -- there is room for one more
     pub one-more : getD lens m 0 + 1 ≤ 8
     one-more =
-        let long : length (join (queuesOf entries lens m) a) ≡ getD lens m 0 + 1
+        let long : length (join (queuesOf queues m) a) ≡ getD lens m 0 + 1
         = ap length joins-end
-        ∙ length-append (queuesOf entries lens m) (a ∷ [])
-        ∙ ap (λ (n : ℕ). n + 1) (queue-length entries lens m room known) in
+        ∙ length-append (queuesOf queues m) (a ∷ [])
+        ∙ ap (λ (n : ℕ). n + 1) (queue-length queues m room known) in
         omega arith
 
-    pub enters : Becomes entries lens (set entries (8 * m + getD lens m 0) a) (set lens m (getD lens m 0 + 1)) m (join (queuesOf entries lens m) a)
+    pub enters : Becomes queues (set entries (8 * m + getD lens m 0) a) (set lens m (getD lens m 0 + 1)) m (join (queuesOf queues m) a)
     enters =
         let n : ℕ = getD lens m 0 in
         let more : n + 1 ≤ 8 = one-more in
@@ -49,20 +49,20 @@ module _ (entries lens : List ℕ) (m a : ℕ) (room : QueueRoom entries lens) (
         let above : 8 * m ≤ 8 * m + n = omega arith in
         let below : 8 * m + n < 8 * m + 8 = omega arith in
         let inside : 8 * m + n < length entries = omega arith in (
-          changed entries lens m room known after (n + 1) (join (queuesOf entries lens m) a) (take-set-le (8 * m) entries (8 * m + n) a above)
+          changed queues m room known after (n + 1) (join (queuesOf queues m) a) (take-set-le (8 * m) entries (8 * m + n) a above)
               (drop-set-lt (8 * m + 8) entries (8 * m + n) a below)
               (stored entries (8 * m) n a inside ∙ sym joins-end),
-          room-kept entries lens m room known after (n + 1) (length-set entries (8 * m + n) a ∙ room .entries-long) more,
+          room-kept queues m room known after (n + 1) (length-set entries (8 * m + n) a ∙ room .entries-long) more,
         )
 
   pub leaves : (after : List ℕ) (kept : ℕ) → Compacted entries after (8 * m) (getD lens m 0) a kept
-      → Becomes entries lens after (set lens m kept) m (leave (queuesOf entries lens m) a)
+      → Becomes queues after (set lens m kept) m (leave (queuesOf queues m) a)
   leaves after kept c =
       let short : getD lens m 0 ≤ 8 = room .bounded m in
       let apart : 8 * m + getD lens m 0 ≤ 8 * m + 8 = omega arith in
       let few : kept ≤ 8 = omega arith in (
-        changed entries lens m room known after kept (leave (queuesOf entries lens m) a) (c .before)
+        changed queues m room known after kept (leave (queuesOf queues m) a) (c .before)
             (part-behind (8 * m + 8) (8 * m + getD lens m 0) entries after apart (c .behind))
             (c .left),
-        room-kept entries lens m room known after kept (c .long) few,
+        room-kept queues m room known after kept (c .long) few,
       )

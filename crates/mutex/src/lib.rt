@@ -11,12 +11,12 @@ ghost use Rattle.mutex.specs.MutexParts.{Compacted};
 use table::bytes;
 
 // Lock: an actor that is not queued yet joins the end.
-pub fn join(entries: &mut [u8; 64], lens: &mut [usize; 8], m: usize, a: usize)
-    requires { ⌜ QueueRoom (now entries) (now lens) × (m < 8) × (a < 8)
-        × (length (joined (queuesOf (now entries) (now lens) m) a) ≤ 8) ⌝ }
-    ensures { λ _. ⌜ (queuesOf (now (entries .exit)) (now (lens .exit))
-        ≡ upd eqb (queuesOf (now (entries .entry)) (now (lens .entry))) m (joined (queuesOf (now (entries .entry)) (now (lens .entry)) m) a))
-        × QueueRoom (now (entries .exit)) (now (lens .exit)) ⌝ }
+pub fn join(queues: &mut [u8; 72], m: usize, a: usize)
+    requires { ⌜ QueueRoom (now queues) × (m < 8) × (a < 8)
+        × (length (joined (queuesOf (now queues) m) a) ≤ 8) ⌝ }
+    ensures { λ _. ⌜ (queuesOf (now (queues .exit))
+        ≡ upd eqb (queuesOf (now (queues .entry))) m (joined (queuesOf (now (queues .entry)) m) a))
+        × QueueRoom (now (queues .exit)) ⌝ }
 {
     let at = 8 * m;
     let n = lens[m];
@@ -29,11 +29,11 @@ pub fn join(entries: &mut [u8; 64], lens: &mut [usize; 8], m: usize, a: usize)
 }
 
 // Unlock: the actor is removed, owner or not.
-pub fn leave(entries: &mut [u8; 64], lens: &mut [usize; 8], m: usize, a: usize)
-    requires { ⌜ QueueRoom (now entries) (now lens) × (m < 8) × (a < 8) ⌝ }
-    ensures { λ _. ⌜ (queuesOf (now (entries .exit)) (now (lens .exit))
-        ≡ upd eqb (queuesOf (now (entries .entry)) (now (lens .entry))) m (left (queuesOf (now (entries .entry)) (now (lens .entry)) m) a))
-        × QueueRoom (now (entries .exit)) (now (lens .exit)) ⌝ }
+pub fn leave(queues: &mut [u8; 72], m: usize, a: usize)
+    requires { ⌜ QueueRoom (now queues) × (m < 8) × (a < 8) ⌝ }
+    ensures { λ _. ⌜ (queuesOf (now (queues .exit))
+        ≡ upd eqb (queuesOf (now (queues .entry))) m (left (queuesOf (now (queues .entry)) m) a))
+        × QueueRoom (now (queues .exit)) ⌝ }
 {
     let n = lens[m];
     let kept = compact(entries, 8 * m, n, a as u8);
@@ -41,9 +41,9 @@ pub fn leave(entries: &mut [u8; 64], lens: &mut [usize; 8], m: usize, a: usize)
 }
 
 // Whether an actor owns a mutex: whether it is the first in its queue.
-pub fn owner(entries: &[u8; 64], lens: &[usize; 8], m: usize, a: usize) -> bool
-    requires { ⌜ QueueRoom (now entries) (now lens) × (m < 8) ⌝ }
-    ensures { λ r. ⌜ r ≡ owns (queuesOf (now (entries .entry)) (now (lens .entry)) m) a ⌝ }
+pub fn owner(queues: &[u8; 72], m: usize, a: usize) -> bool
+    requires { ⌜ QueueRoom (now queues) × (m < 8) ⌝ }
+    ensures { λ r. ⌜ r ≡ owns (queuesOf (now (queues .entry)) m) a ⌝ }
 {
     let n = lens[m];
     if n == 0 {

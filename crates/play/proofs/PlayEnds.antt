@@ -99,10 +99,10 @@ start-zeros table schedule names′ F =
     }
 
 -- fresh arrays hold a fresh site
-pub playing-start : (table schedule comms log heads tails entries lens names′ : List ℕ) (actors : List Actor)
-    → Fresh table comms log heads tails entries lens names′ → actors ≡ replicate 8 freshActor
-    → Playing table schedule comms log heads tails entries lens names′ actors 0
-playing-start table schedule comms log heads tails entries lens names′ actors F e =
+pub playing-start : (table schedule comms log ends queues names′ : List ℕ) (actors : List Actor)
+    → Fresh table comms log ends queues names′ → actors ≡ replicate 8 freshActor
+    → Playing table schedule comms log ends queues names′ actors 0
+playing-start table schedule comms log ends queues names′ actors F e =
     rw (F .comms-fresh, F .log-fresh, F .heads-fresh, F .tails-fresh, F .entries-fresh, F .lens-fresh, e)
     (start-zeros table schedule names′
     (record {
@@ -116,8 +116,8 @@ playing-start table schedule comms log heads tails entries lens names′ actors 
       names-long = F .names-long;
     }))
 
-module _ {table schedule comms log heads tails entries lens names′ : List ℕ} {actors : List Actor} {i : ℕ}
-    (P : Playing table schedule comms log heads tails entries lens names′ actors i) (through : length schedule ≤ i) where
+module _ {table schedule comms log ends queues names′ : List ℕ} {actors : List Actor} {i : ℕ}
+    (P : Playing table schedule comms log ends queues names′ actors i) (through : length schedule ≤ i) where
   all : i ≡ length schedule
   all = omega (arith, P .index)
 
@@ -130,11 +130,11 @@ module _ {table schedule comms log heads tails entries lens names′ : List ℕ}
   pub checks-end : (n : RefusalNumbers) → fine ≡ checkSchedule n table schedule
   checks-end n = sym (taken-checks table n initial 0 schedule taken-all)
 
-  pub ended : (r : Played) → r .actors ≡ actors → Ended table schedule comms log heads tails entries lens names′ r
+  pub ended : (r : Played) → r .actors ≡ actors → Ended table schedule comms log ends queues names′ r
   ended r e =
       record {
         site =
-            ap (λ (l : List Actor). siteOf l comms log heads tails entries lens) e ∙ P .site
+            ap (λ (l : List Actor). siteOf l comms log ends queues) e ∙ P .site
             ∙ ap (endState table) whole;
         actors-long = ap length e ∙ P .actors-long;
         eight = λ a. ap (λ (l : List Actor). length (getD l a freshActor .cells)) e ∙ P .eight a;

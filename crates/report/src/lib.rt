@@ -162,7 +162,7 @@ fn names(log: &[u8; 4096], from: usize, count: usize, buf: &mut [u8]) -> usize
 }
 
 // How many steps are pending at a port.
-fn waiting(heads: &[usize; 16], tails: &[usize; 16], port: usize) -> usize
+fn waiting(ends: &[usize; 32], port: usize) -> usize
     requires { ⌜ (length (now heads) ≡ 16) × (length (now tails) ≡ 16) × (port < 16) × (getD (now heads) port 0 ≤ getD (now tails) port 0) ⌝ }
     ensures { λ r. ⌜ r ≡ getD (now (tails .entry)) port 0 - getD (now (heads .entry)) port 0 ⌝ }
 {
@@ -172,54 +172,51 @@ fn waiting(heads: &[usize; 16], tails: &[usize; 16], port: usize) -> usize
 // The steps that are pending at a port.
 fn port_part(
     log: &[u8; 4096],
-    heads: &[usize; 16],
-    tails: &[usize; 16],
+    ends: &[usize; 32],
     port: usize,
     buf: &mut [u8],
 ) -> usize
-    requires { ⌜ LogRoom (now log) (now heads) (now tails) × (port < 16) × (length (portBytes (now log) (now heads) (now tails) port) ≤ length (now buf)) ⌝ }
-    ensures { λ r. ⌜ Wrote (now (buf .entry)) (portBytes (now (log .entry)) (now (heads .entry)) (now (tails .entry)) port) (now (buf .exit)) r ⌝ }
+    requires { ⌜ LogRoom (now log) (now ends) × (port < 16) × (length (portBytes (now log) (now ends) port) ≤ length (now buf)) ⌝ }
+    ensures { λ r. ⌜ Wrote (now (buf .entry)) (portBytes (now (log .entry)) (now (ends .entry)) port) (now (buf .exit)) r ⌝ }
 {
     let head = heads[port];
-    let count = waiting(heads, tails, port);
+    let count = waiting(ends, port);
     names(log, 256 * port + head, count, buf)
 }
 
 // A mailbox's queue: its length and its steps.
 fn box_part(
     log: &[u8; 4096],
-    heads: &[usize; 16],
-    tails: &[usize; 16],
+    ends: &[usize; 32],
     m: usize,
     buf: &mut [u8],
 ) -> usize
-    requires { ⌜ LogRoom (now log) (now heads) (now tails) × (m < 8)
-        × (length (boxBytes (queueOf (now log) (now heads) (now tails) m)) ≤ length (now buf)) ⌝ }
-    ensures { λ r. ⌜ Wrote (now (buf .entry)) (boxBytes (queueOf (now (log .entry)) (now (heads .entry)) (now (tails .entry)) m)) (now (buf .exit)) r ⌝ }
+    requires { ⌜ LogRoom (now log) (now ends) × (m < 8)
+        × (length (boxBytes (queueOf (now log) (now ends) m)) ≤ length (now buf)) ⌝ }
+    ensures { λ r. ⌜ Wrote (now (buf .entry)) (boxBytes (queueOf (now (log .entry)) (now (ends .entry)) m)) (now (buf .exit)) r ⌝ }
 {
-    let sends = waiting(heads, tails, 2 * m);
-    let size = sends + waiting(heads, tails, 2 * m + 1);
+    let sends = waiting(ends, 2 * m);
+    let size = sends + waiting(ends, 2 * m + 1);
     let at = two((size % 256) as u8, (size / 256 % 256) as u8, buf);
-    let next = at + port_part(log, heads, tails, 2 * m, &mut buf[at..]);
-    next + port_part(log, heads, tails, 2 * m + 1, &mut buf[next..])
+    let next = at + port_part(log, ends, 2 * m, &mut buf[at..]);
+    next + port_part(log, ends, 2 * m + 1, &mut buf[next..])
 }
 
 // The mailboxes.
 fn boxes_part(
     log: &[u8; 4096],
-    heads: &[usize; 16],
-    tails: &[usize; 16],
+    ends: &[usize; 32],
     count: usize,
     buf: &mut [u8],
 ) -> usize
-    requires { ⌜ LogRoom (now log) (now heads) (now tails) × (count ≤ 8)
-        × (length (boxesBytes (now log) (now heads) (now tails) count) ≤ length (now buf)) ⌝ }
-    ensures { λ r. ⌜ Wrote (now (buf .entry)) (boxesBytes (now (log .entry)) (now (heads .entry)) (now (tails .entry)) count) (now (buf .exit)) r ⌝ }
+    requires { ⌜ LogRoom (now log) (now ends) × (count ≤ 8)
+        × (length (boxesBytes (now log) (now ends) count) ≤ length (now buf)) ⌝ }
+    ensures { λ r. ⌜ Wrote (now (buf .entry)) (boxesBytes (now (log .entry)) (now (ends .entry)) count) (now (buf .exit)) r ⌝ }
 {
     let mut at = 0;
     let mut m = 0;
     while m < count {
-        at += box_part(log, heads, tails, m, &mut buf[at..]);
+        at += box_part(log, ends, m, &mut buf[at..]);
         m += 1;
     }
     at
@@ -248,9 +245,9 @@ fn mutex_part(entries: &[u8; 64], m: usize, count: usize, buf: &mut [u8]) -> usi
 }
 
 // The mutexes.
-fn mutexes_part(entries: &[u8; 64], lens: &[usize; 8], count: usize, buf: &mut [u8]) -> usize
-    requires { ⌜ QueueRoom (now entries) (now lens) × (count ≤ 8) × (length (mutexesBytes (now entries) (now lens) count) ≤ length (now buf)) ⌝ }
-    ensures { λ r. ⌜ Wrote (now (buf .entry)) (mutexesBytes (now (entries .entry)) (now (lens .entry)) count) (now (buf .exit)) r ⌝ }
+fn mutexes_part(queues: &[u8; 72], count: usize, buf: &mut [u8]) -> usize
+    requires { ⌜ QueueRoom (now queues) × (count ≤ 8) × (length (mutexesBytes (now queues) count) ≤ length (now buf)) ⌝ }
+    ensures { λ r. ⌜ Wrote (now (buf .entry)) (mutexesBytes (now (queues .entry)) count) (now (buf .exit)) r ⌝ }
 {
     let mut at = 0;
     let mut m = 0;
@@ -268,22 +265,20 @@ pub fn write(
     actors: [Actor; 8],
     comms: &[u64; 256],
     log: &[u8; 4096],
-    heads: &[usize; 16],
-    tails: &[usize; 16],
-    entries: &[u8; 64],
-    lens: &[usize; 8],
+    ends: &[usize; 32],
+    queues: &[u8; 72],
     buf: &mut [u8],
 ) -> usize
-    requires { ⌜ Reportable (now table) actors (now comms) (now log) (now heads) (now tails) (now entries) (now lens) (now buf) ⌝ }
+    requires { ⌜ Reportable (now table) actors (now comms) (now log) (now ends) (now queues) (now buf) ⌝ }
     ensures { λ r. ⌜ Wrote (now (buf .entry))
-        (report (now (table .entry)) (siteOf actors (now (comms .entry)) (now (log .entry)) (now (heads .entry)) (now (tails .entry)) (now (entries .entry)) (now (lens .entry))))
+        (report (now (table .entry)) (siteOf actors (now (comms .entry)) (now (log .entry)) (now (ends .entry)) (now (queues .entry))))
         (now (buf .exit)) r ⌝ }
 {
     let n = access::actors(table);
     let actions = actors_part(actors, n, buf);
     let boxes = actions + actions_part(table, comms, n, &mut buf[actions..]);
     let m = access::mailboxes(table);
-    let mutexes = boxes + boxes_part(log, heads, tails, m, &mut buf[boxes..]);
+    let mutexes = boxes + boxes_part(log, ends, m, &mut buf[boxes..]);
     let x = access::mutexes(table);
-    mutexes + mutexes_part(entries, lens, x, &mut buf[mutexes..])
+    mutexes + mutexes_part(queues, x, &mut buf[mutexes..])
 }

@@ -31,14 +31,14 @@ returns : tie.Need-returns
 returns c =
     let start = c .before .before .before .before in
     let x = start .args in
-    stays (x .entries .now) (x .lens .now) (x .m) (x .a) (start .pre .0) (start .pre .1) (sym (c .before .queued .ensures) ∙ c .if1 .taken)
+    stays (x .queues .now) (x .m) (x .a) (start .pre .0) (start .pre .1) (sym (c .before .queued .ensures) ∙ c .if1 .taken)
 
 -- what is known where the actor is not queued: there is room for one more
 more : (c : tie.Else1) → getD (c .before .before .before .before .args .lens .now) (c .before .before .before .before .args .m) 0 + 1 ≤ 8
 more c =
     let start = c .before .before .before .before in
     let x = start .args in
-    one-more (x .entries .now) (x .lens .now) (x .m) (x .a) (start .pre .0) (start .pre .1) (sym (c .before .queued .ensures) ∙ c .if1 .left) (start .pre .3)
+    one-more (x .queues .now) (x .m) (x .a) (start .pre .0) (start .pre .1) (sym (c .before .queued .ensures) ∙ c .if1 .left) (start .pre .3)
 
 add-entries : tie.Need-add-entries
 add-entries c = omega (arith, more c)
@@ -59,7 +59,7 @@ returns-2 : tie.Need-returns-2
 returns-2 c =
     let start = c .before .before .before .before in
     let x = start .args in
-    enters (x .entries .now) (x .lens .now) (x .m) (x .a) (start .pre .0) (start .pre .1) (sym (c .before .queued .ensures) ∙ c .if1 .left) (start .pre .3)
+    enters (x .queues .now) (x .m) (x .a) (start .pre .0) (start .pre .1) (sym (c .before .queued .ensures) ∙ c .if1 .left) (start .pre .3)
 
 pub join-spec : {M : Type 1} → statement M
 join-spec =

@@ -34,7 +34,7 @@ returns : tie.Need-returns
 returns c =
     let start = c .before .before .before in
     let x = start .args in
-    leaves (x .entries .now) (x .lens .now) (x .m) (x .a) (start .pre .0) (start .pre .1) (c .compact .last .0) (c .compact .result) (c .compact .ensures)
+    leaves (x .queues .now) (x .m) (x .a) (start .pre .0) (start .pre .1) (c .compact .last .0) (c .compact .result) (c .compact .ensures)
 
 pub leave-spec : {M : Type 1} → statement M
 leave-spec =

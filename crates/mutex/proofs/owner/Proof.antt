@@ -16,7 +16,7 @@ element-copy-out-n c = search needs
 returns : tie.Need-returns
 returns c =
     let x = c .before .before .args in
-    owner-none (x .entries .now) (x .lens .now) (x .m) (x .a) (c .if1 .taken)
+    owner-none (x .queues .now) (x .m) (x .a) (c .if1 .taken)
 
 mul-wide : tie.Need-mul-wide
 mul-wide c = search needs
@@ -32,7 +32,7 @@ returns-2 c =
     let start = c .before .before .before .before in
     let x = start .args in
     ap (eqb (x .a)) (c .wide .ensures .0)
-    ∙ owner-first (x .entries .now) (x .lens .now) (x .m) (x .a) (start .pre .0) (start .pre .1) (c .before .before .if1 .left)
+    ∙ owner-first (x .queues .now) (x .m) (x .a) (start .pre .0) (start .pre .1) (c .before .before .if1 .left)
 
 pub owner-spec : {M : Type 1} → statement M
 owner-spec =

@@ -19,11 +19,11 @@ use Rattle.play.proofs.play.Statement.{statement}
 use Rattle.play.proofs.play.Tie as tie
 
 abbrev Inv-loop : tie.InvT-loop
-Inv-loop table schedule comms₀ log₀ heads₀ tails₀ entries₀ lens₀ names₀ n actors₀ i₀ comms log heads tails entries lens names actors i =
-    Playing table schedule comms log heads tails entries lens names actors i
+Inv-loop table schedule comms₀ log₀ heads₀ tails₀ entries₀ lens₀ names₀ n actors₀ i₀ comms log ends queues names actors i =
+    Playing table schedule comms log ends queues names actors i
 
 abbrev μ-loop : tie.MeasureT-loop
-μ-loop table schedule comms₀ log₀ heads₀ tails₀ entries₀ lens₀ names₀ n actors₀ i₀ comms log heads tails entries lens names actors i =
+μ-loop table schedule comms₀ log₀ heads₀ tails₀ entries₀ lens₀ names₀ n actors₀ i₀ comms log ends queues names actors i =
     length schedule - i
 
 -- a stop is not the end

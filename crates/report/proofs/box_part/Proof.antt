@@ -16,16 +16,16 @@ use Rattle.report.proofs.box_part.Tie as tie
 
 -- what is to be written: the length, the Sends' names, the Receives' names
 abbrev count : (s : tie.Start) → ℕ → ℕ
-count s port = countIn (s .args .log .now) (s .args .heads .now) (s .args .tails .now) port
+count s port = countIn (s .args .log .now) (s .args .ends .now) port
 
 abbrev steps : (s : tie.Start) → ℕ → List ℕ
-steps s port = portBytes (s .args .log .now) (s .args .heads .now) (s .args .tails .now) port
+steps s port = portBytes (s .args .log .now) (s .args .ends .now) port
 
 abbrev whole : (s : tie.Start) → List ℕ
 whole s = word (count s (2 * s .args .m) + count s (2 * s .args .m + 1)) ++ (steps s (2 * s .args .m) ++ steps s (2 * s .args .m + 1))
 
-same : (s : tie.Start) → whole s ≡ boxBytes (queueOf (s .args .log .now) (s .args .heads .now) (s .args .tails .now) (s .args .m))
-same s = box-split (s .args .log .now) (s .args .heads .now) (s .args .tails .now) (s .pre .0) (s .args .m) (s .pre .1)
+same : (s : tie.Start) → whole s ≡ boxBytes (queueOf (s .args .log .now) (s .args .ends .now) (s .args .m))
+same s = box-split (s .args .log .now) (s .args .ends .now) (s .pre .0) (s .args .m) (s .pre .1)
 
 fits : (s : tie.Start) → length (whole s) ≤ length (s .args .buf .now)
 fits s = subst (λ (l : List ℕ). length l ≤ length (s .args .buf .now)) (sym (same s)) (s .pre .2)

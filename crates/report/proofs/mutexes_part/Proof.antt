@@ -9,14 +9,14 @@ use Rattle.writing.proofs.Loops.{Turn, first-turn, next-at, next-room, next-sum
 use Rattle.report.proofs.mutexes_part.Statement.{statement}
 use Rattle.report.proofs.mutexes_part.Tie as tie
 
-abbrev mutex : (entries lens : List ℕ) → ℕ → List ℕ
-mutex entries lens m = mutexBytes (queuesOf entries lens m)
+abbrev mutex : (queues : List ℕ) → ℕ → List ℕ
+mutex queues m = mutexBytes (queuesOf queues m)
 
 abbrev Inv-loop : tie.InvT-loop
-Inv-loop entries lens count buf₀ at₀ m₀ buf at m = Turn (mutex entries lens) count buf₀ m buf at
+Inv-loop queues count buf₀ at₀ m₀ buf at m = Turn (mutex queues) count buf₀ m buf at
 
 abbrev μ-loop : tie.MeasureT-loop
-μ-loop entries lens count buf₀ at₀ m₀ buf at m = count - m
+μ-loop queues count buf₀ at₀ m₀ buf at m = count - m
 
 loop-holds : tie.Need-loop-holds Inv-loop μ-loop
 loop-holds c = first-turn (c .before .pre .2)

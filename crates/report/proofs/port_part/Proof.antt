@@ -29,7 +29,7 @@ mul-names c = search needs
 add-names : tie.Need-add-names
 add-names c =
     let s = c .before .before .before in
-    omega (arith, port-room (s .args .log .now) (s .args .heads .now) (s .args .tails .now) (s .pre .0) (s .args .port) (s .pre .1))
+    omega (arith, port-room (s .args .log .now) (s .args .ends .now) (s .pre .0) (s .args .port) (s .pre .1))
 
 -- n steps from the port's head on
 abbrev first : (s : tie.Start) → ℕ → List ℕ
@@ -41,7 +41,7 @@ names-requires c κs =
     let from = 256 * s .args .port + getD (s .args .heads .now) (s .args .port) 0 in
     let count = sym (c .before .waiting .ensures) in (
       s .pre .0 .log-long,
-      subst (λ (n : ℕ). from + n ≤ 4096) count (port-room (s .args .log .now) (s .args .heads .now) (s .args .tails .now) (s .pre .0) (s .args .port) (s .pre .1)),
+      subst (λ (n : ℕ). from + n ≤ 4096) count (port-room (s .args .log .now) (s .args .ends .now) (s .pre .0) (s .args .port) (s .pre .1)),
       subst (λ (n : ℕ). length (first s n) ≤ length (s .args .buf .now)) count (s .pre .2),
     )
 

@@ -24,16 +24,16 @@ abbrev sec2 : (s : tie.Start) → List ℕ
 sec2 s = actionsBytes (s .args .table .now) (s .args .comms .now) (actorsOf (s .args .table .now))
 
 abbrev sec3 : (s : tie.Start) → List ℕ
-sec3 s = boxesBytes (s .args .log .now) (s .args .heads .now) (s .args .tails .now) (mailboxesOf (s .args .table .now))
+sec3 s = boxesBytes (s .args .log .now) (s .args .ends .now) (mailboxesOf (s .args .table .now))
 
 abbrev sec4 : (s : tie.Start) → List ℕ
-sec4 s = mutexesBytes (s .args .entries .now) (s .args .lens .now) (mutexesOf (s .args .table .now))
+sec4 s = mutexesBytes (s .args .queues .now) (mutexesOf (s .args .table .now))
 
 abbrev whole : (s : tie.Start) → List ℕ
 whole s = sec1 s ++ (sec2 s ++ (sec3 s ++ sec4 s))
 
 abbrev site : (s : tie.Start) → Site
-site s = siteOf (s .args .actors) (s .args .comms .now) (s .args .log .now) (s .args .heads .now) (s .args .tails .now) (s .args .entries .now) (s .args .lens .now)
+site s = siteOf (s .args .actors) (s .args .comms .now) (s .args .log .now) (s .args .ends .now) (s .args .queues .now)
 
 same : (s : tie.Start) → whole s ≡ report (s .args .table .now) (site s)
 unfolding report
@@ -45,7 +45,7 @@ fits s = subst (λ (l : List ℕ). length l ≤ length (s .args .buf .now)) (sym
 comms-room : (s : tie.Start) → CommsRoom (s .args .comms .now)
 comms-room s = record { long = s .pre .mail .comms-long; valued = s .pre .mail .valued }
 
-log-room : (s : tie.Start) → LogRoom (s .args .log .now) (s .args .heads .now) (s .args .tails .now)
+log-room : (s : tie.Start) → LogRoom (s .args .log .now) (s .args .ends .now)
 log-room s =
     let r = s .pre .mail in
     record { log-long = r .log-long; heads-long = r .heads-long; tails-long = r .tails-long; ordered = r .ordered; bounded = r .bounded }
@@ -156,7 +156,7 @@ boxes-part-requires c κs =
     let n = sym (c .before .mailboxes .ensures) in (
       log-room s,
       subst (λ (k : ℕ). k ≤ 8) n (s .pre .accepted .mailboxes-most),
-      subst (λ (k : ℕ). length (boxesBytes (s .args .log .now) (s .args .heads .now) (s .args .tails .now) k) ≤ length (rest (at2 b) (buf2 b))) n (section-room (sec3 s) (sec4 s) (begun2 b)),
+      subst (λ (k : ℕ). length (boxesBytes (s .args .log .now) (s .args .ends .now) k) ≤ length (rest (at2 b) (buf2 b))) n (section-room (sec3 s) (sec4 s) (begun2 b)),
     )
 
 -- the mailboxes too
@@ -165,7 +165,7 @@ wrote3 c =
     let b = past3 c in
     let s = start1 (past2 b) in
     let w = c .before .before .boxes-part in
-    subst (λ (n : ℕ). Wrote (rest (at2 b) (buf2 b)) (boxesBytes (s .args .log .now) (s .args .heads .now) (s .args .tails .now) n) (w .last .1 .1 .1 .1 .0) (w .result)) (c .before .before .before .before .mailboxes .ensures) (w .ensures)
+    subst (λ (n : ℕ). Wrote (rest (at2 b) (buf2 b)) (boxesBytes (s .args .log .now) (s .args .ends .now) n) (w .last .1 .1 .1 .1 .0) (w .result)) (c .before .before .before .before .mailboxes .ensures) (w .ensures)
 
 begun3 : (c : tie.After-slice-known4) → let s = start1 (past2 (past3 c)) in Begun (whole s) (s .args .buf .now) (buf3 c) (at3 c) (sec4 s)
 begun3 c =
@@ -196,7 +196,7 @@ mutexes-part-requires c κs =
     let n = sym (c .before .mutexes .ensures) in (
       s .pre .queues,
       subst (λ (k : ℕ). k ≤ 8) n (s .pre .accepted .mutexes-most),
-      subst (λ (k : ℕ). length (mutexesBytes (s .args .entries .now) (s .args .lens .now) k) ≤ length (rest (at3 b) (buf3 b))) n (left-room (begun3 b)),
+      subst (λ (k : ℕ). length (mutexesBytes (s .args .queues .now) k) ≤ length (rest (at3 b) (buf3 b))) n (left-room (begun3 b)),
     )
 
 -- and the mutexes
@@ -205,7 +205,7 @@ wrote4 c =
     let b = past4 c in
     let s = start1 (past2 (past3 b)) in
     let w = c .before .before .mutexes-part in
-    subst (λ (n : ℕ). Wrote (rest (at3 b) (buf3 b)) (mutexesBytes (s .args .entries .now) (s .args .lens .now) n) (w .last .1 .1 .1 .0) (w .result)) (c .before .before .before .before .mutexes .ensures) (w .ensures)
+    subst (λ (n : ℕ). Wrote (rest (at3 b) (buf3 b)) (mutexesBytes (s .args .queues .now) n) (w .last .1 .1 .1 .0) (w .result)) (c .before .before .before .before .mutexes .ensures) (w .ensures)
 
 add-result : tie.Need-add-result
 add-result c =

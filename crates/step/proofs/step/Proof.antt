@@ -243,7 +243,7 @@ unfolding cellsAfter
 returns-4 c =
     of-next (Send (c .before .before .before .before .before .before .before .before .x4 .given .0 .0) (c .before .before .before .before .before .before .before .before .x4 .given .0 .1 .0)) (sym (c .before .before .before .before .before .before .before .before .before .before .action .ensures) ∙ c .before .before .before .before .before .before .before .before .x4 .given .1)
     (posted (c .before .before .before .before .before .before .before .before .before .before .before .before .pre) (Send (c .before .before .before .before .before .before .before .before .x4 .given .0 .0) (c .before .before .before .before .before .before .before .before .x4 .given .0 .1 .0)) (record { ready = true; actor = c .next4 .result }) (sendsAt (c .before .before .before .before .before .before .before .before .x4 .given .0 .0)) (getD (c .before .before .before .before .before .before .before .before .before .before .before .before .args .t3 .cells) (c .before .before .before .before .before .before .before .before .x4 .given .0 .1 .0) 0) refl refl refl
-    (c .before .send .ensures .mail ∙ meets-as (c .before .before .before .before .before .before .before .before .before .before .before .before .pre) (sendsAt (c .before .before .before .before .before .before .before .before .x4 .given .0 .0)) (getD (c .before .before .before .before .before .before .before .before .before .before .before .before .args .t3 .cells) (c .before .before .before .before .before .before .before .before .x4 .given .0 .1 .0) 0) (mailOf (c .before .before .before .before .before .before .before .before .before .before .before .before .args .comms .now) (c .before .before .before .before .before .before .before .before .before .before .before .before .args .log .now) (c .before .before .before .before .before .before .before .before .before .before .before .before .args .heads .now) (c .before .before .before .before .before .before .before .before .before .before .before .before .args .tails .now)))
+    (c .before .send .ensures .mail ∙ meets-as (c .before .before .before .before .before .before .before .before .before .before .before .before .pre) (sendsAt (c .before .before .before .before .before .before .before .before .x4 .given .0 .0)) (getD (c .before .before .before .before .before .before .before .before .before .before .before .before .args .t3 .cells) (c .before .before .before .before .before .before .before .before .x4 .given .0 .1 .0) 0) (mailOf (c .before .before .before .before .before .before .before .before .before .before .before .before .args .comms .now) (c .before .before .before .before .before .before .before .before .before .before .before .before .args .log .now) (c .before .before .before .before .before .before .before .before .before .before .before .before .args .ends .now)))
     (c .before .send .ensures .room) (c .before .send .ensures .grown) (c .next4 .ensures .0) (c .next4 .ensures .1))
 
 returns-5 : tie.Need-returns-5
@@ -251,7 +251,7 @@ unfolding cellsAfter
 returns-5 c =
     of-next (Receive (c .before .before .before .before .before .before .before .x5 .given .0 .0) (c .before .before .before .before .before .before .before .x5 .given .0 .1 .0)) (sym (c .before .before .before .before .before .before .before .before .before .action .ensures) ∙ c .before .before .before .before .before .before .before .x5 .given .1)
     (posted (c .before .before .before .before .before .before .before .before .before .before .before .pre) (Receive (c .before .before .before .before .before .before .before .x5 .given .0 .0) (c .before .before .before .before .before .before .before .x5 .given .0 .1 .0)) (record { ready = true; actor = c .next5 .result }) (receivesAt (c .before .before .before .before .before .before .before .x5 .given .0 .0)) 0 refl refl refl
-    (c .before .receive .ensures .mail ∙ meets-as (c .before .before .before .before .before .before .before .before .before .before .before .pre) (receivesAt (c .before .before .before .before .before .before .before .x5 .given .0 .0)) 0 (mailOf (c .before .before .before .before .before .before .before .before .before .before .before .args .comms .now) (c .before .before .before .before .before .before .before .before .before .before .before .args .log .now) (c .before .before .before .before .before .before .before .before .before .before .before .args .heads .now) (c .before .before .before .before .before .before .before .before .before .before .before .args .tails .now)))
+    (c .before .receive .ensures .mail ∙ meets-as (c .before .before .before .before .before .before .before .before .before .before .before .pre) (receivesAt (c .before .before .before .before .before .before .before .x5 .given .0 .0)) 0 (mailOf (c .before .before .before .before .before .before .before .before .before .before .before .args .comms .now) (c .before .before .before .before .before .before .before .before .before .before .before .args .log .now) (c .before .before .before .before .before .before .before .before .before .before .before .args .ends .now)))
     (c .before .receive .ensures .room) (c .before .receive .ensures .grown) (c .next5 .ensures .0) (c .next5 .ensures .1))
 
 returns-6 : tie.Need-returns-6
