@@ -1,14 +1,13 @@
 // What a step sees of the rest of the state.
 ghost use mathlib.Core.Path.{_≡_};
-ghost use Prim.Native.Nat.{ℕ, _^_, _<_, _≤_};
+ghost use Prim.Native.Nat.{ℕ, _<_, _≤_};
 ghost use mathlib.Core.Bool.{cond};
 ghost use mathlib.Core.List.{[], _∷_};
 ghost use lib.Dec.{leb};
-ghost use lib.ListN.{length, getD};
 ghost use Rattle.table.specs.Promise.{number as numberAt};
 ghost use Rattle.model.specs.Views.{listed};
 ghost use Rattle.model.specs.Local.{unseen, isSeen};
-ghost use Rattle.state.specs.State.{QueueRoom};
+ghost use Rattle.state.specs.State.{CommsRoom, QueueRoom};
 ghost use Rattle.look.specs.LookParts.{seenOf, communicationsSeen, mutexesSeen};
 
 // Nothing; or the first place in the list, counted from 1, with the number listed there and the value of that communication (0 for a mutex).
@@ -23,8 +22,7 @@ pub enum Seen {
 
 // The first listed communication of an actor that is done.
 pub fn communications(comms: &[u64; 256], a: usize, list: table::Numbers) -> Seen
-    requires { ⌜ (length (now comms) ≡ 256) × ((j : ℕ) → getD (now comms) j 0 < 2 ^ 42) × (a < 8)
-        × ((i : ℕ) → i < list .count → numberAt list i < 32) ⌝ }
+    requires { ⌜ CommsRoom (now comms) × (a < 8) × ((i : ℕ) → i < list .count → numberAt list i < 32) ⌝ }
     ensures { λ r. ⌜ seenOf r ≡ communicationsSeen (now (comms .entry)) a 1 (listed list) ⌝ }
 {
     let seen = communication(comms, a, list.count, 1, list.n0);
@@ -64,7 +62,7 @@ pub fn mutexes(queues: &[u8; 72], a: usize, list: table::Numbers) -> Seen
 
 // One place of a list of `count` numbers: communication k, if the list has the place and the communication is done.
 fn communication(comms: &[u64; 256], a: usize, count: usize, place: usize, k: usize) -> Seen
-    requires { ⌜ (length (now comms) ≡ 256) × ((j : ℕ) → getD (now comms) j 0 < 2 ^ 42) × (a < 8) × (place ≤ count → k < 32) ⌝ }
+    requires { ⌜ CommsRoom (now comms) × (a < 8) × (place ≤ count → k < 32) ⌝ }
     ensures { λ r. ⌜ seenOf r ≡ cond (leb place count) (communicationsSeen (now (comms .entry)) a place (k ∷ [])) unseen ⌝ }
 {
     if count < place {
