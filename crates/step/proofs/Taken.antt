@@ -5,7 +5,7 @@ use mathlib.Core.Bool.{Bool, true, false}
 use mathlib.Core.List.{List}
 use Prim.Native.Nat.{ℕ, _+_, _*_, _<_, _≤_}
 use native.Mathlib.Omega.{arith}
-use lib.ListN.{length, getD, set, length-set}
+use lib.ListN.{length, set, length-set}
 use Rattle.table.specs.declared.Action.{Action}
 use Rattle.table.specs.declared.Action.the-variants.{Set, Add, Lesser, Send, Receive, TestAny, WaitAny, Lock, Unlock, MutexTest, MutexWait}
 use Rattle.table.specs.declared.Numbers.{Numbers}
@@ -20,7 +20,7 @@ use Rattle.model.specs.Mutex.{queueing}
 use Rattle.model.specs.Local.{Seen, unseen, seen, first, see, pickUp, pickUpSeen, cellsAfter}
 use Rattle.model.specs.Step.{passes}
 use Rattle.names.specs.InByte.{nameOf}
-use Rattle.state.specs.State.{recordOf, mailOf, queuesOf, MailRoom, QueueRoom, nextOf, seenFrom}
+use Rattle.state.specs.State.{recordOf, tailIn, mailOf, queuesOf, MailRoom, QueueRoom, nextOf, seenFrom}
 use Rattle.step.specs.StepParts.{Steppable, Took, StepTaken, Picks, SmallPlace}
 use Rattle.state.specs.declared.Actor.{Actor}
 use Rattle.step.specs.declared.Stepped.{Stepped}
@@ -131,7 +131,7 @@ module _ {table : List ℕ} {a : ℕ} {r : Actor} {comms log ends queues : List 
       → s .actor .position ≡ r .position + 1
       → s .actor .cells ≡ cellsAfter (actionOf table a) x (see (seenFrom r (mailOf comms log ends) (queuesOf queues)) a (looks x)) (r .cells)
       → StepTaken table a x r comms log ends queues comms log ends queues′ s
-  queued x s p {queues′} post ready unmailed queues room position cells =
+  queued x s p {queues′} post ready unmailed changed room position cells =
       record {
         ready-right = ready;
         took = record {
@@ -140,7 +140,7 @@ module _ {table : List ℕ} {a : ℕ} {r : Actor} {comms log ends queues : List 
               sym
               (ap (λ (q : Post). mailing q (name a (r .position)) (sent x (r .cells)) (mailOf comms log ends)) post
               ∙ unmailed (name a (r .position)) (sent x (r .cells)) (mailOf comms log ends));
-          queue-next = queues ∙ sym (ap (λ (q : Post). queueing q a (queuesOf queues)) post);
+          queue-next = changed ∙ sym (ap (λ (q : Post). queueing q a (queuesOf queues)) post);
         };
         mail-room = S .mail-room;
         queue-room = room;

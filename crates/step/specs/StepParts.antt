@@ -4,7 +4,7 @@ use Prim.Native.Nat.{ℕ, _+_, _<_, _≤_, _^_}
 use mathlib.Core.Path.{_≡_}
 use mathlib.Core.Bool.{Bool, true, false}
 use mathlib.Core.List.{List}
-use lib.ListN.{length, getD}
+use lib.ListN.{length}
 use Rattle.table.specs.declared.Action.{Action}
 use Rattle.table.specs.Format.{actorsOf, countOf}
 use Rattle.table.specs.Decode.{actionOf}
@@ -15,7 +15,7 @@ use Rattle.model.specs.Mutex.{queueing, join}
 use Rattle.model.specs.Mail.{mailing}
 use Rattle.model.specs.Local as Local
 use Rattle.model.specs.Step.{passes}
-use Rattle.state.specs.State.{recordOf, mailOf, queuesOf, MailRoom, QueueRoom, EightCells, seenFrom, nextOf}
+use Rattle.state.specs.State.{recordOf, tailIn, mailOf, queuesOf, MailRoom, QueueRoom, EightCells, seenFrom, nextOf}
 use Rattle.state.specs.declared.Actor.{Actor}
 use Rattle.step.specs.declared.Stepped.{Stepped}
 
