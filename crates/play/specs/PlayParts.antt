@@ -21,10 +21,8 @@ pub record Fresh (table comms log ends queues names′ : List ℕ) : Type 0 wher
   pub accepted : WellFormed table
   pub comms-fresh : comms ≡ replicate 256 0
   pub log-fresh : log ≡ replicate 4096 0
-  pub heads-fresh : heads ≡ replicate 16 0
-  pub tails-fresh : tails ≡ replicate 16 0
-  pub entries-fresh : entries ≡ replicate 64 0
-  pub lens-fresh : lens ≡ replicate 8 0
+  pub ends-fresh : ends ≡ replicate 32 0
+  pub queues-fresh : queues ≡ replicate 72 0
   pub names-long : length names′ ≡ 256
 
 -- document 01's outcome for where a schedule halts, by the numbers of its refusals
