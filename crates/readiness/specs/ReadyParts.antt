@@ -1,6 +1,6 @@
 -- The ready answer's parts over the engine's arrays.
 -- Assumes nothing: these are definitions.
-use Prim.Native.Nat.{ℕ, _<_, _^_}
+use Prim.Native.Nat.{ℕ, _<_}
 use mathlib.Core.Path.{_≡_}
 use mathlib.Core.Bool.{Bool, not, _&&_}
 use mathlib.Core.List.{List}
@@ -11,7 +11,7 @@ use Rattle.table.specs.Promise.{WellFormed}
 use Rattle.model.specs.Site.{Site}
 use Rattle.model.specs.Step.{passes}
 use Rattle.model.specs.Ready as Model
-use Rattle.state.specs.State.{mailOf, queuesOf, siteOf, freshActor, QueueRoom, nextOf, seenFrom}
+use Rattle.state.specs.State.{mailOf, queuesOf, siteOf, freshActor, CommsRoom, QueueRoom, nextOf, seenFrom}
 use Rattle.state.specs.declared.Actor.{Actor}
 
 -- the state, with the ports' logs, in which readiness does not look
@@ -22,15 +22,13 @@ siteWith actors comms queues log ends = siteOf actors comms log ends queues
 pub record Looked (table : List ℕ) (a : ℕ) (comms queues : List ℕ) : Type 0 where
   pub accepted : WellFormed table
   pub actor : a < actorsOf table
-  pub comms-long : length comms ≡ 256
-  pub valued : (j : ℕ) → getD comms j 0 < 2 ^ 42
+  pub comms-room : CommsRoom comms
   pub queue-room : QueueRoom queues
 
 pub record Answerable (table : List ℕ) (actors : List Actor) (comms queues : List ℕ) : Type 0 where
   pub accepted : WellFormed table
   pub actors-long : length actors ≡ 8
-  pub comms-long : length comms ≡ 256
-  pub valued : (j : ℕ) → getD comms j 0 < 2 ^ 42
+  pub comms-room : CommsRoom comms
   pub queue-room : QueueRoom queues
 
 -- an actor with the record r is not finished and need not wait

@@ -49,8 +49,7 @@ communications-requires c κs =
     let L = c .before .before .before .before .before .before .before .pre in
     let below : c .before .before .before .before .before .before .before .args .r .position < countOf (c .before .before .before .before .before .before .before .args .table .now) (c .before .before .before .before .before .before .before .args .a) = omega (arith, c .before .before .before .before .before .actions .ensures, c .before .before .before .before .if1 .left) in
     let range = subst (InRange (c .before .before .before .before .before .before .before .args .table .now) (c .before .before .before .before .before .before .before .args .a) (c .before .before .before .before .before .before .before .args .r .position)) (sym (c .before .before .before .action .ensures) ∙ c .before .x .given .1) (c .before .before .before .before .before .before .before .pre .accepted .in-range (c .before .before .before .before .before .before .before .args .a) (c .before .before .before .before .before .before .before .args .r .position) (c .before .before .before .before .before .before .before .pre .actor) (omega (arith, c .before .before .before .before .before .actions .ensures, c .before .before .before .before .if1 .left))) in (
-      L .comms-long,
-      L .valued,
+      L .comms-room,
       omega (arith, L .accepted .actors-most, L .actor),
       λ i h. omega (arith, range .1 .right i h .0, L .accepted .actions-most (c .before .before .before .before .before .before .before .args .a) (L .actor), below),
     )

@@ -27,7 +27,7 @@ room-left : {table : List ℕ} {actors : List Actor} {comms queues : List ℕ} {
     → (a ≤ n) × ((log ends : List ℕ) → m ≡ maskOf (ready table (siteWith actors comms queues log ends)) (n - a) a) → 0 < a → m < 128
 room-left {table} {actors} {comms} {queues} {n} {m} {a} A counted inv some =
     let few : n - a ≤ 7 = omega (arith, A .accepted .actors-most) in
-    rw (inv .1 [] [] []) (mask-room (ready table (siteWith actors comms queues [] [] [])) (n - a) a few)
+    rw (inv .1 [] []) (mask-room (ready table (siteWith actors comms queues [] [])) (n - a) a few)
 
 loop-holds : tie.Need-loop-holds Inv-loop μ-loop
 loop-holds c =
@@ -50,8 +50,7 @@ is-ready-requires c κs =
     record {
       accepted = p .accepted;
       actor = omega (arith, c .before .before .before .before .pre .0 .actors-long, c .before .before .before .before .pre .0 .accepted .actors-most, c .before .before .before .before .pre .1, c .before .loop-test .taken);
-      comms-long = p .comms-long;
-      valued = p .valued;
+      comms-room = p .comms-room;
       queue-room = p .queue-room;
     }
 
