@@ -5,12 +5,12 @@ use mathlib.Core.List.{List, [], _∷_, _++_, map}
 use Prim.Native.Nat.{ℕ, _+_, _-_, _*_, _<_, _≤_}
 use native.Mathlib.Nat.{add-zero}
 use native.Mathlib.Omega.{arith}
-use lib.ListN.{length, getD, length-append, length-map}
+use lib.ListN.{length, length-append, length-map}
 use Rattle.trace.specs.Machine.{Name}
 use Rattle.model.specs.Report.{word, nameBytes, boxBytes}
 use Rattle.names.specs.InByte.{nameOf}
-use Rattle.state.specs.State.{pendingIn}
-use Rattle.report.specs.ReportParts.{LogRoom, portBytes, queueOf}
+use Rattle.state.specs.State.{headIn, tailIn, pendingIn, LogRoom}
+use Rattle.report.specs.ReportParts.{portBytes, queueOf}
 use Rattle.report.proofs.ReportLists.{taken-length}
 
 names-append : (l k : List Name) → nameBytes (l ++ k) ≡ nameBytes l ++ nameBytes k

@@ -1,9 +1,8 @@
 -- What the report's writers promise, and what writing a report asks.
 -- Assumes nothing: these are definitions.
-use Prim.Native.Nat.{ℕ, _<_, _≤_, _^_}
-use mathlib.Core.Path.{_≡_}
+use Prim.Native.Nat.{ℕ, _<_, _≤_}
 use mathlib.Core.List.{List, _++_, map}
-use lib.ListN.{length, getD, take, drop}
+use lib.ListN.{length, take, drop}
 use Rattle.table.specs.Format.{countOf}
 use Rattle.table.specs.Promise.{WellFormed}
 use Rattle.trace.specs.Machine.{Name}
@@ -42,19 +41,6 @@ boxesBytes log ends n = parts (λ m. boxBytes (queueOf log ends m)) n 0
 abbrev pub mutexesBytes : (queues : List ℕ) → ℕ → List ℕ
 mutexesBytes queues n = parts (λ m. mutexBytes (queuesOf queues m)) n 0
 
--- the communications have their array's length, and each value fits 32 bits
-pub record CommsRoom (comms : List ℕ) : Type 0 where
-  pub long : length comms ≡ 256
-  pub valued : (j : ℕ) → getD comms j 0 < 2 ^ 42
-
--- the ports' logs have their arrays' lengths, and none runs over
-pub record LogRoom (log ends : List ℕ) : Type 0 where
-  pub log-long : length log ≡ 4096
-  pub heads-long : length heads ≡ 16
-  pub tails-long : length tails ≡ 16
-  pub ordered : (n : ℕ) → headIn ends n ≤ tailIn ends n
-  pub bounded : (n : ℕ) → tailIn ends n ≤ 256
-
 -- each actor's position fits a byte
 abbrev pub Positions : List Actor → Type 0
 Positions actors = (a : ℕ) → recordsOf actors a .position < 256
@@ -63,6 +49,6 @@ Positions actors = (a : ℕ) → recordsOf actors a .position < 256
 pub record Reportable (table : List ℕ) (actors : List Actor) (comms log ends queues buf : List ℕ) : Type 0 where
   pub accepted : WellFormed table
   pub positions : Positions actors
-  pub mail : MailRoom comms log ends
-  pub queues : QueueRoom queues
+  pub mail-room : MailRoom comms log ends
+  pub queue-room : QueueRoom queues
   pub room : length (report table (siteOf actors comms log ends queues)) ≤ length buf
