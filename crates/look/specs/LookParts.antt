@@ -22,13 +22,13 @@ doneIn comms a k = isDone (commsOf comms (name a k))
 abbrev pub valueIn : (comms : List ℕ) → ℕ → ℕ → ℕ
 valueIn comms a k = carried (commsOf comms (name a k))
 
-abbrev pub ownedIn : (entries lens : List ℕ) → ℕ → ℕ → Bool
-ownedIn entries lens a m = owns (queuesOf entries lens m) a
+abbrev pub ownedIn : (queues : List ℕ) → ℕ → ℕ → Bool
+ownedIn queues a m = owns (queuesOf queues m) a
 
 -- what the model's `see` gives of these arrays: the first communication that is done, or the first mutex that the actor owns, of a list whose
 -- first place is `from`
 abbrev pub communicationsSeen : (comms : List ℕ) → ℕ → ℕ → List ℕ → Seen
 communicationsSeen comms a from l = first (doneIn comms a) (valueIn comms a) from l
 
-abbrev pub mutexesSeen : (entries lens : List ℕ) → ℕ → ℕ → List ℕ → Seen
-mutexesSeen entries lens a from l = first (ownedIn entries lens a) (λ m. 0) from l
+abbrev pub mutexesSeen : (queues : List ℕ) → ℕ → ℕ → List ℕ → Seen
+mutexesSeen queues a from l = first (ownedIn queues a) (λ m. 0) from l

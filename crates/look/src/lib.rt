@@ -1,14 +1,13 @@
 // What a step sees of the rest of the state.
 ghost use mathlib.Core.Path.{_≡_};
-ghost use Prim.Native.Nat.{ℕ, _^_, _<_, _≤_};
+ghost use Prim.Native.Nat.{ℕ, _<_, _≤_};
 ghost use mathlib.Core.Bool.{cond};
 ghost use mathlib.Core.List.{[], _∷_};
 ghost use lib.Dec.{leb};
-ghost use lib.ListN.{length, getD};
 ghost use Rattle.table.specs.Promise.{number as numberAt};
 ghost use Rattle.model.specs.Views.{listed};
 ghost use Rattle.model.specs.Local.{unseen, isSeen};
-ghost use Rattle.state.specs.State.{QueueRoom};
+ghost use Rattle.state.specs.State.{CommsRoom, QueueRoom};
 ghost use Rattle.look.specs.LookParts.{seenOf, communicationsSeen, mutexesSeen};
 
 // Nothing; or the first place in the list, counted from 1, with the number listed there and the value of that communication (0 for a mutex).
@@ -23,8 +22,7 @@ pub enum Seen {
 
 // The first listed communication of an actor that is done.
 pub fn communications(comms: &[u64; 256], a: usize, list: table::Numbers) -> Seen
-    requires { ⌜ (length (now comms) ≡ 256) × ((j : ℕ) → getD (now comms) j 0 < 2 ^ 42) × (a < 8)
-        × ((i : ℕ) → i < list .count → numberAt list i < 32) ⌝ }
+    requires { ⌜ CommsRoom (now comms) × (a < 8) × ((i : ℕ) → i < list .count → numberAt list i < 32) ⌝ }
     ensures { λ r. ⌜ seenOf r ≡ communicationsSeen (now (comms .entry)) a 1 (listed list) ⌝ }
 {
     let seen = communication(comms, a, list.count, 1, list.n0);
@@ -43,28 +41,28 @@ pub fn communications(comms: &[u64; 256], a: usize, list: table::Numbers) -> See
 }
 
 // The first listed mutex that an actor owns.
-pub fn mutexes(entries: &[u8; 64], lens: &[usize; 8], a: usize, list: table::Numbers) -> Seen
-    requires { ⌜ QueueRoom (now entries) (now lens) × ((i : ℕ) → i < list .count → numberAt list i < 8) ⌝ }
-    ensures { λ r. ⌜ seenOf r ≡ mutexesSeen (now (entries .entry)) (now (lens .entry)) a 1 (listed list) ⌝ }
+pub fn mutexes(queues: &[u8; 72], a: usize, list: table::Numbers) -> Seen
+    requires { ⌜ QueueRoom (now queues) × ((i : ℕ) → i < list .count → numberAt list i < 8) ⌝ }
+    ensures { λ r. ⌜ seenOf r ≡ mutexesSeen (now (queues .entry)) a 1 (listed list) ⌝ }
 {
-    let seen = owned(entries, lens, a, list.count, 1, list.n0);
+    let seen = owned(queues, a, list.count, 1, list.n0);
     let Seen::Unseen = seen else {
         return seen;
     };
-    let seen = owned(entries, lens, a, list.count, 2, list.n1);
+    let seen = owned(queues, a, list.count, 2, list.n1);
     let Seen::Unseen = seen else {
         return seen;
     };
-    let seen = owned(entries, lens, a, list.count, 3, list.n2);
+    let seen = owned(queues, a, list.count, 3, list.n2);
     let Seen::Unseen = seen else {
         return seen;
     };
-    owned(entries, lens, a, list.count, 4, list.n3)
+    owned(queues, a, list.count, 4, list.n3)
 }
 
 // One place of a list of `count` numbers: communication k, if the list has the place and the communication is done.
 fn communication(comms: &[u64; 256], a: usize, count: usize, place: usize, k: usize) -> Seen
-    requires { ⌜ (length (now comms) ≡ 256) × ((j : ℕ) → getD (now comms) j 0 < 2 ^ 42) × (a < 8) × (place ≤ count → k < 32) ⌝ }
+    requires { ⌜ CommsRoom (now comms) × (a < 8) × (place ≤ count → k < 32) ⌝ }
     ensures { λ r. ⌜ seenOf r ≡ cond (leb place count) (communicationsSeen (now (comms .entry)) a place (k ∷ [])) unseen ⌝ }
 {
     if count < place {
@@ -83,21 +81,20 @@ fn communication(comms: &[u64; 256], a: usize, count: usize, place: usize, k: us
 
 // The same of mutex m, if the actor owns it.
 fn owned(
-    entries: &[u8; 64],
-    lens: &[usize; 8],
+    queues: &[u8; 72],
     a: usize,
     count: usize,
     place: usize,
     m: usize,
 ) -> Seen
-    requires { ⌜ QueueRoom (now entries) (now lens) × (place ≤ count → m < 8) ⌝ }
+    requires { ⌜ QueueRoom (now queues) × (place ≤ count → m < 8) ⌝ }
     ensures { λ r. ⌜ seenOf r
-        ≡ cond (leb place count) (mutexesSeen (now (entries .entry)) (now (lens .entry)) a place (m ∷ [])) unseen ⌝ }
+        ≡ cond (leb place count) (mutexesSeen (now (queues .entry)) a place (m ∷ [])) unseen ⌝ }
 {
     if count < place {
         return Seen::Unseen;
     }
-    if mutex::owner(entries, lens, m, a) {
+    if mutex::owner(queues, m, a) {
         return Seen::At {
             place,
             number: m,

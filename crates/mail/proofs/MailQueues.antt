@@ -10,15 +10,16 @@ use mathlib.Core.List.{List, [], _∷_, _++_, map, map-append}
 use borrow.Author.Tests.{ltb-true, ltb-false}
 use lib.Dec.{ltb}
 use lib.ListN.{length, getD, take, drop, set, length-drop}
-use lib.Seq.{getD-set-same, getD-set-other, drop-set-lt, drop-set-add, take-set-le, take-suc-set, drop-cons}
+use lib.Seq.{drop-set-lt, drop-set-add, take-set-le, take-suc-set, drop-cons}
 use Rattle.trace.proofs.Bools.{which}
 use Rattle.model.specs.Site.{upd, Side, sends, receives, Port, eqPort}
 use Rattle.model.specs.Mail.{atEnd}
 use Rattle.model.proofs.Ports.{port-test}
 use Rattle.names.specs.InByte.{nameOf}
-use Rattle.state.specs.State.{sideNumber, portNumber, pendingIn, waitingOf, MailRoom}
-use Rattle.mail.specs.MailParts.{oldestIn, appended, advanced}
+use Rattle.state.specs.State.{sideNumber, portNumber, headIn, tailIn, pendingIn, waitingOf, LogRoom}
+use Rattle.mail.specs.MailParts.{oldestIn, appended, headOn, tailOn}
 use Rattle.mail.proofs.MailChanges.{changed-at}
+use Rattle.mail.proofs.MailEnds.{heads-kept, tails-kept, head-other, tail-other, head-own, tail-own}
 
 -- ---- ports and their numbers
 
@@ -58,49 +59,57 @@ apart k n h l t ne b c = go (which (ltb n k))
     go (inl p) = inl (omega (arith, ltb-true n k p))
     go (inr p) = inr (omega (arith, ltb-false n k p, ne))
 
-module _ (comms log heads tails : List ℕ) (room : MailRoom comms log heads tails) (n : ℕ) (small : n < 16) where
+module _ (log ends : List ℕ) (room : LogRoom log ends) (n : ℕ) (small : n < 16) where
   -- ---- a name is appended to the log of port n
 
-  module _ (me : ℕ) (free : getD tails n 0 < 256) where
-    longer : getD (advanced tails n) n 0 ≡ getD tails n 0 + 1
-    longer = getD-set-same tails n (getD tails n 0 + 1) 0 (omega (arith, room .tails-long))
+  module _ (me : ℕ) (free : tailIn ends n < 256) where
+    -- the heads stay
+    head-stays : (k : ℕ)
+        → pendingIn (appended log ends n me) (tailOn ends n) k
+        ≡ take (tailIn (tailOn ends n) k - headIn ends k) (drop (256 * k + headIn ends k) (appended log ends n me))
+    head-stays k =
+        ap (λ (h : ℕ). take (tailIn (tailOn ends n) k - h) (drop (256 * k + h) (appended log ends n me))) (heads-kept ends n (tailIn ends n + 1) k)
 
-    append-own : pendingIn (appended log tails n me) heads (advanced tails n) n ≡ pendingIn log heads tails n ++ (me ∷ [])
+    append-own : pendingIn (appended log ends n me) (tailOn ends n) n ≡ pendingIn log ends n ++ (me ∷ [])
     append-own =
-        let s : ℕ = 256 * n + getD heads n 0 in
-        let k : ℕ = getD tails n 0 - getD heads n 0 in
-        let e : getD (advanced tails n) n 0 - getD heads n 0 ≡ suc k = omega (arith, longer, room .ordered n) in
-        let f : 256 * n + getD tails n 0 ≡ s + k = omega (arith, room .ordered n) in
-        ap (λ (j : ℕ). take j (drop s (appended log tails n me))) e
+        let s : ℕ = 256 * n + headIn ends n in
+        let k : ℕ = tailIn ends n - headIn ends n in
+        let e : tailIn (tailOn ends n) n - headIn ends n ≡ suc k =
+        omega (arith, tail-own ends n (tailIn ends n + 1) (room .ends-long) small, room .ordered n) in
+        let f : 256 * n + tailIn ends n ≡ s + k = omega (arith, room .ordered n) in
+        head-stays n
+        ∙ ap (λ (j : ℕ). take j (drop s (appended log ends n me))) e
         ∙ ap (λ (i : ℕ). take (suc k) (drop s (set log i me))) f
         ∙ part-longer log me s k (omega (arith, f, room .log-long))
 
-    append-other : (k : ℕ) → k ≢ n → pendingIn (appended log tails n me) heads (advanced tails n) k ≡ pendingIn log heads tails k
+    append-other : (k : ℕ) → k ≢ n → pendingIn (appended log ends n me) (tailOn ends n) k ≡ pendingIn log ends k
     append-other k ne =
-        let s : ℕ = 256 * k + getD heads k 0 in
-        let l : ℕ = getD tails k 0 - getD heads k 0 in
-        ap (λ (t : ℕ). take (t - getD heads k 0) (drop s (appended log tails n me))) (getD-set-other tails n k (getD tails n 0 + 1) 0 ne)
-        ∙ part-kept log (256 * n + getD tails n 0) me s l
-        (apart k n (getD heads k 0) l (getD tails n 0) ne (omega (arith, room .ordered k, room .bounded k)) free)
+        let s : ℕ = 256 * k + headIn ends k in
+        let l : ℕ = tailIn ends k - headIn ends k in
+        head-stays k
+        ∙ ap (λ (t : ℕ). take (t - headIn ends k) (drop s (appended log ends n me))) (tail-other ends n (tailIn ends n + 1) k ne)
+        ∙ part-kept log (256 * n + tailIn ends n) me s l
+        (apart k n (headIn ends k) l (tailIn ends n) ne (omega (arith, room .ordered k, room .bounded k)) free)
 
   -- ---- the head of port n goes one further
 
-  module _ (some : getD heads n 0 < getD tails n 0) where
-    take-own : pendingIn log heads tails n ≡ oldestIn log heads n ∷ pendingIn log (advanced heads n) tails n
+  module _ (some : headIn ends n < tailIn ends n) where
+    take-own : pendingIn log ends n ≡ oldestIn log ends n ∷ pendingIn log (headOn ends n) n
     take-own =
-        let h : ℕ = getD heads n 0 in
-        let t : ℕ = getD tails n 0 in
+        let h : ℕ = headIn ends n in
         let s : ℕ = 256 * n + h in
-        let g : getD (advanced heads n) n 0 ≡ h + 1 = getD-set-same heads n (h + 1) 0 (omega (arith, room .heads-long)) in
-        let e : t - h ≡ suc (t - getD (advanced heads n) n 0) = omega (arith, g) in
-        let f : suc s ≡ 256 * n + getD (advanced heads n) n 0 = omega (arith, g) in
+        let left : ℕ = tailIn (headOn ends n) n - headIn (headOn ends n) n in
+        let g : headIn (headOn ends n) n ≡ h + 1 = head-own ends n (h + 1) (room .ends-long) small in
+        let e : tailIn ends n - h ≡ suc left = omega (arith, g, tails-kept ends n (h + 1) n) in
+        let f : suc s ≡ 256 * n + headIn (headOn ends n) n = omega (arith, g) in
         ap (λ (k : ℕ). take k (drop s log)) e
-        ∙ ap (take (suc (t - getD (advanced heads n) n 0))) (drop-cons log s 0 (omega (arith, room .bounded n, room .log-long)))
-        ∙ ap (λ (i : ℕ). getD log s 0 ∷ take (t - getD (advanced heads n) n 0) (drop i log)) f
+        ∙ ap (take (suc left)) (drop-cons log s 0 (omega (arith, room .bounded n, room .log-long)))
+        ∙ ap (λ (i : ℕ). getD log s 0 ∷ take left (drop i log)) f
 
-    take-other : (k : ℕ) → k ≢ n → pendingIn log (advanced heads n) tails k ≡ pendingIn log heads tails k
+    take-other : (k : ℕ) → k ≢ n → pendingIn log (headOn ends n) k ≡ pendingIn log ends k
     take-other k ne =
-        ap (λ (h : ℕ). take (getD tails k 0 - h) (drop (256 * k + h) log)) (getD-set-other heads n k (getD heads n 0 + 1) 0 ne)
+        ap (λ (t : ℕ). take (t - headIn (headOn ends n) k) (drop (256 * k + headIn (headOn ends n) k) log)) (tails-kept ends n (headIn ends n + 1) k)
+        ∙ ap (λ (h : ℕ). take (tailIn ends k - h) (drop (256 * k + h) log)) (head-other ends n (headIn ends n + 1) k ne)
 
   -- ---- the same of the model's queues, where n is a port's number
 
@@ -108,37 +117,37 @@ module _ (comms log heads tails : List ℕ) (room : MailRoom comms log heads tai
     other-number : (q : Port) → q ≢ port → portNumber q ≢ n
     other-number q ne e = ne (same-port q port (e ∙ number))
 
-    pub waiting-appended : (me : ℕ) → getD tails n 0 < 256
-        → waitingOf (appended log tails n me) heads (advanced tails n)
-        ≡ upd eqPort (waitingOf log heads tails) port (atEnd (waitingOf log heads tails port) (nameOf me))
+    pub waiting-appended : (me : ℕ) → tailIn ends n < 256
+        → waitingOf (appended log ends n me) (tailOn ends n)
+        ≡ upd eqPort (waitingOf log ends) port (atEnd (waitingOf log ends port) (nameOf me))
     waiting-appended me free =
-        changed-at port-test (waitingOf log heads tails) (waitingOf (appended log tails n me) heads (advanced tails n)) port
-        (atEnd (waitingOf log heads tails port) (nameOf me))
-        (ap (λ (k : ℕ). map nameOf (pendingIn (appended log tails n me) heads (advanced tails n) k)) (sym number)
+        changed-at port-test (waitingOf log ends) (waitingOf (appended log ends n me) (tailOn ends n)) port
+        (atEnd (waitingOf log ends port) (nameOf me))
+        (ap (λ (k : ℕ). map nameOf (pendingIn (appended log ends n me) (tailOn ends n) k)) (sym number)
         ∙ ap (map nameOf) (append-own me free)
-        ∙ map-append nameOf (pendingIn log heads tails n) (me ∷ [])
-        ∙ ap (λ (k : ℕ). atEnd (map nameOf (pendingIn log heads tails k)) (nameOf me)) number)
+        ∙ map-append nameOf (pendingIn log ends n) (me ∷ [])
+        ∙ ap (λ (k : ℕ). atEnd (map nameOf (pendingIn log ends k)) (nameOf me)) number)
         (λ q ne. ap (map nameOf) (append-other me free (portNumber q) (other-number q ne)))
 
-    pub waiting-taken : (some : getD heads n 0 < getD tails n 0)
-        → waitingOf log (advanced heads n) tails
-        ≡ upd eqPort (waitingOf log heads tails) port (waitingOf log (advanced heads n) tails port)
+    pub waiting-taken : (some : headIn ends n < tailIn ends n)
+        → waitingOf log (headOn ends n)
+        ≡ upd eqPort (waitingOf log ends) port (waitingOf log (headOn ends n) port)
     waiting-taken some =
-        changed-at port-test (waitingOf log heads tails) (waitingOf log (advanced heads n) tails) port
-        (waitingOf log (advanced heads n) tails port) refl
+        changed-at port-test (waitingOf log ends) (waitingOf log (headOn ends n)) port
+        (waitingOf log (headOn ends n) port) refl
         (λ q ne. ap (map nameOf) (take-other some (portNumber q) (other-number q ne)))
 
     -- the oldest step at the port, and the rest
-    pub waiting-some : getD heads n 0 < getD tails n 0
-        → waitingOf log heads tails port ≡ nameOf (oldestIn log heads n) ∷ waitingOf log (advanced heads n) tails port
+    pub waiting-some : headIn ends n < tailIn ends n
+        → waitingOf log ends port ≡ nameOf (oldestIn log ends n) ∷ waitingOf log (headOn ends n) port
     waiting-some some =
-        ap (λ (k : ℕ). map nameOf (pendingIn log heads tails k)) (sym number)
+        ap (λ (k : ℕ). map nameOf (pendingIn log ends k)) (sym number)
         ∙ ap (map nameOf) (take-own some)
-        ∙ ap (λ (k : ℕ). nameOf (oldestIn log heads n) ∷ map nameOf (pendingIn log (advanced heads n) tails k)) number
+        ∙ ap (λ (k : ℕ). nameOf (oldestIn log ends n) ∷ map nameOf (pendingIn log (headOn ends n) k)) number
 
     -- no step at the port
-    pub waiting-none : getD tails n 0 ≤ getD heads n 0 → waitingOf log heads tails port ≡ []
+    pub waiting-none : tailIn ends n ≤ headIn ends n → waitingOf log ends port ≡ []
     waiting-none none =
-        let e : getD tails n 0 - getD heads n 0 ≡ 0 = omega arith in
-        ap (λ (k : ℕ). map nameOf (pendingIn log heads tails k)) (sym number)
-        ∙ ap (λ (k : ℕ). map nameOf (take k (drop (256 * n + getD heads n 0) log))) e
+        let e : tailIn ends n - headIn ends n ≡ 0 = omega arith in
+        ap (λ (k : ℕ). map nameOf (pendingIn log ends k)) (sym number)
+        ∙ ap (λ (k : ℕ). map nameOf (take k (drop (256 * n + headIn ends n) log))) e

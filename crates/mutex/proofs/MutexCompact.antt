@@ -15,27 +15,27 @@ use Rattle.mutex.proofs.MutexScan.{rest, rest-begin, rest-next, rest-en
 use Rattle.writing.proofs.Stored.{stored}
 
 -- the entries before i have been looked at: `kept` of them stay
-pub record Compacting (entries now : List ℕ) (at n actor kept i : ℕ) : Type 0 where
-  pub long : length now ≡ 64
+pub record Compacting (queues now : List ℕ) (at n actor kept i : ℕ) : Type 0 where
+  pub long : length now ≡ 72
   pub within : i ≤ n
   pub fewer : kept ≤ i
-  pub before : take at now ≡ take at entries
-  pub behind : drop (at + n) now ≡ drop (at + n) entries
-  pub left : take kept (drop at now) ++ leave (rest now at n i) actor ≡ leave (take n (drop at entries)) actor
+  pub before : take at now ≡ take at queues
+  pub behind : drop (at + n) now ≡ drop (at + n) queues
+  pub left : take kept (drop at now) ++ leave (rest now at n i) actor ≡ leave (take n (drop at queues)) actor
 
-pub begins : (entries : List ℕ) (at n actor : ℕ) → length entries ≡ 64 → Compacting entries entries at n actor 0 0
-begins entries at n actor long =
+pub begins : (queues : List ℕ) (at n actor : ℕ) → length queues ≡ 72 → Compacting queues queues at n actor 0 0
+begins queues at n actor long =
     record {
       long = long;
       within = omega arith;
       fewer = omega arith;
       before = refl;
       behind = refl;
-      left = ap (λ (q : List ℕ). leave q actor) (rest-begin entries at n);
+      left = ap (λ (q : List ℕ). leave q actor) (rest-begin queues at n);
     }
 
-module _ (entries now : List ℕ) (at n actor kept i : ℕ) (c : Compacting entries now at n actor kept i) where
-  pub ends : n ≤ i → Compacted entries now at n actor kept
+module _ (queues now : List ℕ) (at n actor kept i : ℕ) (c : Compacting queues now at n actor kept i) where
+  pub ends : n ≤ i → Compacted queues now at n actor kept
   ends h =
       record {
         long = c .long;
@@ -48,7 +48,7 @@ module _ (entries now : List ℕ) (at n actor kept i : ℕ) (c : Compacting entr
             ∙ c .left;
       }
 
-  module _ (more : i < n) (fits : at + n ≤ 64) where
+  module _ (more : i < n) (fits : at + n ≤ 72) where
     room : at + n ≤ length now
     room = omega arith
 
@@ -57,7 +57,7 @@ module _ (entries now : List ℕ) (at n actor kept i : ℕ) (c : Compacting entr
     next = ap (λ (q : List ℕ). leave q actor) (rest-next now at n i more room)
 
     -- the entry is the actor's: it is passed over
-    pub passes : actor ≡ getD now (at + i) 0 → Compacting entries now at n actor kept (i + 1)
+    pub passes : actor ≡ getD now (at + i) 0 → Compacting queues now at n actor kept (i + 1)
     passes e =
         let gone : leave (rest now at n i) actor ≡ leave (rest now at n (i + 1)) actor = next ∙ rw (eq-eqb actor (getD now (at + i) 0) e) in
         record {
@@ -80,7 +80,7 @@ module _ (entries now : List ℕ) (at n actor kept i : ℕ) (c : Compacting entr
 
     -- the entry is another's: it moves to the front
     pub moves : (actor ≡ getD now (at + i) 0 → ⊥)
-        → Compacting entries (set now (at + kept) (getD now (at + i) 0)) at n actor (kept + 1) (i + 1)
+        → Compacting queues (set now (at + kept) (getD now (at + i) 0)) at n actor (kept + 1) (i + 1)
     unfolding moved
     moves e =
         let b : ℕ = getD now (at + i) 0 in

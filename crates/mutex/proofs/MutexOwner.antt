@@ -1,6 +1,6 @@
 -- Who owns a mutex: nobody where its queue is empty, or else the actor of the queue's first entry.
 -- Assumes nothing.
-use Prim.Native.Nat.{ℕ, suc, _-_, _*_, _<_}
+use Prim.Native.Nat.{ℕ, suc, _+_, _-_, _*_, _<_}
 use native.Mathlib.Omega.{arith}
 use mathlib.Core.Path.{_≡_, _∙_, ap, sym}
 use mathlib.Core.Bool.{false}
@@ -9,16 +9,16 @@ use lib.Dec.{eqb}
 use lib.ListN.{length, getD, take, drop}
 use lib.Seq.{drop-cons}
 use Rattle.model.specs.Mutex.{owns}
-use Rattle.state.specs.State.{queuesOf, QueueRoom}
+use Rattle.state.specs.State.{sizeIn, queuesOf, QueueRoom}
 
-pub owner-none : (entries lens : List ℕ) (m a : ℕ) → getD lens m 0 ≡ 0 → false ≡ owns (queuesOf entries lens m) a
-owner-none entries lens m a e = sym (ap (λ (n : ℕ). owns (take n (drop (8 * m) entries)) a) e)
+pub owner-none : (queues : List ℕ) (m a : ℕ) → sizeIn queues m ≡ 0 → false ≡ owns (queuesOf queues m) a
+owner-none queues m a e = sym (ap (λ (n : ℕ). owns (take n (drop (9 * m + 1) queues)) a) e)
 
-pub owner-first : (entries lens : List ℕ) (m a : ℕ) → QueueRoom entries lens → m < 8 → (getD lens m 0 ≡ 0 → ⊥)
-    → eqb a (getD entries (8 * m) 0) ≡ owns (queuesOf entries lens m) a
-owner-first entries lens m a room known some =
-    let more : getD lens m 0 ≡ suc (getD lens m 0 - 1) = omega arith in
-    let inside : 8 * m < length entries = omega arith in
+pub owner-first : (queues : List ℕ) (m a : ℕ) → QueueRoom queues → m < 8 → (sizeIn queues m ≡ 0 → ⊥)
+    → eqb a (getD queues (9 * m + 1) 0) ≡ owns (queuesOf queues m) a
+owner-first queues m a room known some =
+    let more : sizeIn queues m ≡ suc (sizeIn queues m - 1) = omega arith in
+    let inside : 9 * m + 1 < length queues = omega arith in
     sym
-    (ap (λ (n : ℕ). owns (take n (drop (8 * m) entries)) a) more
-    ∙ ap (λ (l : List ℕ). owns (take (suc (getD lens m 0 - 1)) l) a) (drop-cons entries (8 * m) 0 inside))
+    (ap (λ (n : ℕ). owns (take n (drop (9 * m + 1) queues)) a) more
+    ∙ ap (λ (l : List ℕ). owns (take (suc (sizeIn queues m - 1)) l) a) (drop-cons queues (9 * m + 1) 0 inside))

@@ -7,12 +7,12 @@ use mathlib.Core.Bool.{Bool, true, false, cond}
 use mathlib.Core.Logic.{_⊎_, inl, inr}
 use mathlib.Core.List.{List, [], _∷_}
 use lib.Dec.{eqb, ltb}
-use lib.ListN.{length, getD, take, drop, set, length-set, length-drop}
-use lib.Seq.{getD-set-same, getD-set-other, take-take, drop-drop, length-take-le}
+use lib.ListN.{length, getD, take, drop, length-drop}
+use lib.Seq.{getD-take, getD-drop, take-take, drop-drop, length-take-le}
 use borrow.Author.Tests.{eqb-true, eqb-false, ltb-true, ltb-false}
 use Rattle.trace.proofs.Bools.{which}
 use Rattle.model.specs.Site.{upd}
-use Rattle.state.specs.State.{queuesOf, QueueRoom}
+use Rattle.state.specs.State.{sizeIn, queuesOf, QueueRoom}
 
 -- a part of a list lies within its front
 part-of-front : (i k n : ℕ) (l : List ℕ) → i + k ≤ n → take k (drop i (take n l)) ≡ take k (drop i l)
@@ -35,6 +35,19 @@ part-behind i n l after h e =
     ∙ drop-drop (i - n) n l
     ∙ ap (λ (k : ℕ). drop k l) (sym far)
 
+-- and likewise one element
+elem-before : (i n : ℕ) (l after : List ℕ) → i < n → take n after ≡ take n l → getD after i 0 ≡ getD l i 0
+elem-before i n l after h e = sym (getD-take n after i 0 h) ∙ ap (λ (x : List ℕ). getD x i 0) e ∙ getD-take n l i 0 h
+
+elem-behind : (i n : ℕ) (l after : List ℕ) → n ≤ i → drop n after ≡ drop n l → getD after i 0 ≡ getD l i 0
+elem-behind i n l after h e =
+    let far : i ≡ n + (i - n) = omega arith in
+    ap (λ (k : ℕ). getD after k 0) far
+    ∙ sym (getD-drop n after (i - n) 0)
+    ∙ ap (λ (x : List ℕ). getD x (i - n) 0) e
+    ∙ getD-drop n l (i - n) 0
+    ∙ ap (λ (k : ℕ). getD l k 0) (sym far)
+
 -- nothing changes where the value is the one that is there
 pub upd-same : {B : Type 0} (f : ℕ → B) (m : ℕ) (v : B) → v ≡ f m → f ≡ upd eqb f m v
 upd-same {B} f m v e = fun-ext (λ j. go j (which (eqb j m)))
@@ -43,52 +56,48 @@ upd-same {B} f m v e = fun-ext (λ j. go j (which (eqb j m)))
     go j (inl t) = ap f (eqb-true j m t) ∙ sym e ∙ sym (ap (λ (b : Bool). cond b v (f j)) t)
     go j (inr t) = sym (ap (λ (b : Bool). cond b v (f j)) t)
 
-module _ (entries lens : List ℕ) (m : ℕ) (room : QueueRoom entries lens) (known : m < 8) where
-  pub queue-length : length (queuesOf entries lens m) ≡ getD lens m 0
+module _ (queues : List ℕ) (m : ℕ) (room : QueueRoom queues) (known : m < 8) where
+  pub queue-length : length (queuesOf queues m) ≡ sizeIn queues m
   queue-length =
-      let short : getD lens m 0 ≤ 8 = room .bounded m in
-      let inside : getD lens m 0 ≤ length (drop (8 * m) entries) = rw length-drop (omega arith) in
-      length-take-le (getD lens m 0) (drop (8 * m) entries) inside
+      let short : sizeIn queues m ≤ 8 = room .bounded m in
+      let inside : sizeIn queues m ≤ length (drop (9 * m + 1) queues) = rw length-drop (omega arith) in
+      length-take-le (sizeIn queues m) (drop (9 * m + 1) queues) inside
 
-  module _ (after : List ℕ) (n : ℕ) where
+  -- nothing before the mutex's nine bytes or behind them has changed
+  module _ (after : List ℕ) (before : take (9 * m) after ≡ take (9 * m) queues) (behind : drop (9 * m + 9) after ≡ drop (9 * m + 9) queues) where
     -- no other queue changes
-    other : take (8 * m) after ≡ take (8 * m) entries → drop (8 * m + 8) after ≡ drop (8 * m + 8) entries → (j : ℕ) → (j ≡ m → ⊥)
-        → queuesOf after (set lens m n) j ≡ queuesOf entries lens j
-    other before behind j differs =
-        ap (λ (k : ℕ). take k (drop (8 * j) after)) (getD-set-other lens m j n 0 differs) ∙ go (which (ltb j m))
+    other-size : (j : ℕ) → (j ≡ m → ⊥) → sizeIn after j ≡ sizeIn queues j
+    other-size j differs = go (which (ltb j m))
       where
-        go : (ltb j m ≡ true) ⊎ (ltb j m ≡ false) → take (getD lens j 0) (drop (8 * j) after) ≡ take (getD lens j 0) (drop (8 * j) entries)
+        go : (ltb j m ≡ true) ⊎ (ltb j m ≡ false) → sizeIn after j ≡ sizeIn queues j
+        go (inl t) = elem-before (9 * j) (9 * m) queues after (omega (arith, ltb-true j m t)) before
+        go (inr t) = elem-behind (9 * j) (9 * m + 9) queues after (omega (arith, ltb-false j m t, differs)) behind
+
+    other : (j : ℕ) → (j ≡ m → ⊥) → queuesOf after j ≡ queuesOf queues j
+    other j differs = ap (λ (k : ℕ). take k (drop (9 * j + 1) after)) (other-size j differs) ∙ go (which (ltb j m))
+      where
+        go : (ltb j m ≡ true) ⊎ (ltb j m ≡ false) → take (sizeIn queues j) (drop (9 * j + 1) after) ≡ queuesOf queues j
         go (inl t) =
-            let lower : j < m = ltb-true j m t in
-            let short : getD lens j 0 ≤ 8 = room .bounded j in
-            part-before (8 * j) (getD lens j 0) (8 * m) entries after (omega arith) before
+            part-before (9 * j + 1) (sizeIn queues j) (9 * m) queues after (omega (arith, ltb-true j m t, room .bounded j)) before
         go (inr t) =
-            let above : m ≤ j = ltb-false j m t in
-            let apart : 8 * m + 8 ≤ 8 * j = omega arith in
-            ap (take (getD lens j 0)) (part-behind (8 * j) (8 * m + 8) entries after apart behind)
+            ap (take (sizeIn queues j))
+            (part-behind (9 * j + 1) (9 * m + 9) queues after (omega (arith, ltb-false j m t, differs)) behind)
 
-    pub changed : (q : List ℕ) → take (8 * m) after ≡ take (8 * m) entries → drop (8 * m + 8) after ≡ drop (8 * m + 8) entries
-        → take n (drop (8 * m) after) ≡ q → queuesOf after (set lens m n) ≡ upd eqb (queuesOf entries lens) m q
-    changed q before behind is = fun-ext (λ j. go j (which (eqb j m)))
-      where
-        here : m < length lens
-        here = omega arith
+    module _ (n : ℕ) (size : sizeIn after m ≡ n) where
+      pub changed : (q : List ℕ) → take n (drop (9 * m + 1) after) ≡ q → queuesOf after ≡ upd eqb (queuesOf queues) m q
+      changed q is = fun-ext (λ j. go j (which (eqb j m)))
+        where
+          go : (j : ℕ) → (eqb j m ≡ true) ⊎ (eqb j m ≡ false) → queuesOf after j ≡ cond (eqb j m) q (queuesOf queues j)
+          go j (inl t) =
+              ap (queuesOf after) (eqb-true j m t)
+              ∙ ap (λ (k : ℕ). take k (drop (9 * m + 1) after)) size
+              ∙ is
+              ∙ sym (ap (λ (b : Bool). cond b q (queuesOf queues j)) t)
+          go j (inr t) = other j (eqb-false j m t) ∙ sym (ap (λ (b : Bool). cond b q (queuesOf queues j)) t)
 
-        go : (j : ℕ) → (eqb j m ≡ true) ⊎ (eqb j m ≡ false) → queuesOf after (set lens m n) j ≡ cond (eqb j m) q (queuesOf entries lens j)
-        go j (inl t) =
-            ap (queuesOf after (set lens m n)) (eqb-true j m t)
-            ∙ ap (λ (k : ℕ). take k (drop (8 * m) after)) (getD-set-same lens m n 0 here)
-            ∙ is
-            ∙ sym (ap (λ (b : Bool). cond b q (queuesOf entries lens j)) t)
-        go j (inr t) =
-            other before behind j (eqb-false j m t) ∙ sym (ap (λ (b : Bool). cond b q (queuesOf entries lens j)) t)
-
-    pub room-kept : length after ≡ 64 → n ≤ 8 → QueueRoom after (set lens m n)
-    room-kept long short = record { entries-long = long; lens-long = length-set lens m n ∙ room .lens-long; bounded = λ j. go j (which (eqb j m)) }
-      where
-        here : m < length lens
-        here = omega arith
-
-        go : (j : ℕ) → (eqb j m ≡ true) ⊎ (eqb j m ≡ false) → getD (set lens m n) j 0 ≤ 8
-        go j (inl t) = rw (eqb-true j m t, getD-set-same lens m n 0 here) short
-        go j (inr t) = rw (getD-set-other lens m j n 0 (eqb-false j m t)) (room .bounded j)
+      pub room-kept : length after ≡ 72 → n ≤ 8 → QueueRoom after
+      room-kept long short = record { long = long; bounded = λ j. go j (which (eqb j m)) }
+        where
+          go : (j : ℕ) → (eqb j m ≡ true) ⊎ (eqb j m ≡ false) → sizeIn after j ≤ 8
+          go j (inl t) = rw (eqb-true j m t) (omega (arith, size))
+          go j (inr t) = omega (arith, other-size j (eqb-false j m t), room .bounded j)

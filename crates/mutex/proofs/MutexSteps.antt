@@ -6,63 +6,74 @@ use mathlib.Core.Path.{_≡_, _∙_, ap, sym}
 use mathlib.Core.Bool.{Bool, true, false, cond}
 use mathlib.Core.List.{List, [], _∷_, _++_}
 use lib.Dec.{eqb}
-use lib.ListN.{length, getD, set, length-set, length-append}
-use lib.Seq.{take-set-le, drop-set-lt}
+use lib.ListN.{length, take, drop, set, length-set, length-append}
+use lib.Seq.{getD-set-same, take-set-le, drop-set-lt}
 use Rattle.trace.specs.Order.{has}
 use Rattle.model.specs.Site.{upd}
 use Rattle.model.specs.Mutex.{join, leave}
-use Rattle.state.specs.State.{queuesOf, QueueRoom}
+use Rattle.state.specs.State.{sizeIn, queuesOf, QueueRoom}
 use Rattle.mutex.specs.MutexParts.{Compacted}
 use Rattle.writing.proofs.Stored.{stored}
-use Rattle.mutex.proofs.MutexQueue.{upd-same, part-behind, queue-length, changed, room-kept}
+use Rattle.mutex.proofs.MutexQueue.{upd-same, part-before, part-behind, queue-length, changed, room-kept}
 
 -- the queues are the model's with queue m changed, and have room
-abbrev pub Becomes : (entries lens after counts : List ℕ) → ℕ → List ℕ → Type 0
-Becomes entries lens after counts m q = (queuesOf after counts ≡ upd eqb (queuesOf entries lens) m q) × QueueRoom after counts
+abbrev pub Becomes : (queues after : List ℕ) → ℕ → List ℕ → Type 0
+Becomes queues after m q = (queuesOf after ≡ upd eqb (queuesOf queues) m q) × QueueRoom after
 
-module _ (entries lens : List ℕ) (m a : ℕ) (room : QueueRoom entries lens) (known : m < 8) where
-  -- the actor is queued already
-  pub stays : has (queuesOf entries lens m) a ≡ true → Becomes entries lens entries lens m (join (queuesOf entries lens m) a)
-  stays h =
-      let same : join (queuesOf entries lens m) a ≡ queuesOf entries lens m
-      = ap (λ (b : Bool). cond b (queuesOf entries lens m) (queuesOf entries lens m ++ (a ∷ []))) h in
-      (upd-same (queuesOf entries lens) m (join (queuesOf entries lens m) a) same, room)
-
-  module _ (absent : has (queuesOf entries lens m) a ≡ false) (fits : length (join (queuesOf entries lens m) a) ≤ 8) where
-    joins-end : join (queuesOf entries lens m) a ≡ queuesOf entries lens m ++ (a ∷ [])
-    joins-end = ap (λ (b : Bool). cond b (queuesOf entries lens m) (queuesOf entries lens m ++ (a ∷ []))) absent
-
-    -- there is room for one more
-    pub one-more : getD lens m 0 + 1 ≤ 8
-    one-more =
-        let long : length (join (queuesOf entries lens m) a) ≡ getD lens m 0 + 1
-        = ap length joins-end
-        ∙ length-append (queuesOf entries lens m) (a ∷ [])
-        ∙ ap (λ (n : ℕ). n + 1) (queue-length entries lens m room known) in
-        omega arith
-
-    pub enters : Becomes entries lens (set entries (8 * m + getD lens m 0) a) (set lens m (getD lens m 0 + 1)) m (join (queuesOf entries lens m) a)
-    enters =
-        let n : ℕ = getD lens m 0 in
-        let more : n + 1 ≤ 8 = one-more in
-        let after : List ℕ = set entries (8 * m + n) a in
-        let above : 8 * m ≤ 8 * m + n = omega arith in
-        let below : 8 * m + n < 8 * m + 8 = omega arith in
-        let inside : 8 * m + n < length entries = omega arith in (
-          changed entries lens m room known after (n + 1) (join (queuesOf entries lens m) a) (take-set-le (8 * m) entries (8 * m + n) a above)
-              (drop-set-lt (8 * m + 8) entries (8 * m + n) a below)
-              (stored entries (8 * m) n a inside ∙ sym joins-end),
-          room-kept entries lens m room known after (n + 1) (length-set entries (8 * m + n) a ∙ room .entries-long) more,
-        )
-
-  pub leaves : (after : List ℕ) (kept : ℕ) → Compacted entries after (8 * m) (getD lens m 0) a kept
-      → Becomes entries lens after (set lens m kept) m (leave (queuesOf entries lens m) a)
-  leaves after kept c =
-      let short : getD lens m 0 ≤ 8 = room .bounded m in
-      let apart : 8 * m + getD lens m 0 ≤ 8 * m + 8 = omega arith in
-      let few : kept ≤ 8 = omega arith in (
-        changed entries lens m room known after kept (leave (queuesOf entries lens m) a) (c .before)
-            (part-behind (8 * m + 8) (8 * m + getD lens m 0) entries after apart (c .behind))
-            (c .left),
-        room-kept entries lens m room known after kept (c .long) few,
+module _ (queues : List ℕ) (m a : ℕ) (room : QueueRoom queues) (known : m < 8) where
+  -- a length and a queue are stored in the mutex's nine bytes
+  becomes : (after : List ℕ) (n : ℕ) (q : List ℕ) → length after ≡ 72 → n ≤ 8 → take (9 * m) after ≡ take (9 * m) queues
+      → drop (9 * m + 9) after ≡ drop (9 * m + 9) queues → take n (drop (9 * m + 1) after) ≡ q → Becomes queues (set after (9 * m) n) m q
+  becomes after n q long short before behind is =
+      let first : take (9 * m) (set after (9 * m) n) ≡ take (9 * m) queues = take-set-le (9 * m) after (9 * m) n (omega arith) ∙ before in
+      let last : drop (9 * m + 9) (set after (9 * m) n) ≡ drop (9 * m + 9) queues =
+      drop-set-lt (9 * m + 9) after (9 * m) n (omega arith) ∙ behind in
+      let size : sizeIn (set after (9 * m) n) m ≡ n = getD-set-same after (9 * m) n 0 (omega arith) in (
+        changed queues m room known (set after (9 * m) n) first last n size q
+            (ap (take n) (drop-set-lt (9 * m + 1) after (9 * m) n (omega arith)) ∙ is),
+        room-kept queues m room known (set after (9 * m) n) first last n size (length-set after (9 * m) n ∙ long) short,
       )
+
+  module _ (n : ℕ) (counts : n ≡ sizeIn queues m) where
+    -- the queue is the n actors behind its length
+    counted : take n (drop (9 * m + 1) queues) ≡ queuesOf queues m
+    counted = ap (λ (k : ℕ). take k (drop (9 * m + 1) queues)) counts
+
+    -- the actor is queued already
+    pub stays : has (take n (drop (9 * m + 1) queues)) a ≡ true → Becomes queues queues m (join (queuesOf queues m) a)
+    stays h =
+        let queued : has (queuesOf queues m) a ≡ true = sym (ap (λ (q : List ℕ). has q a) counted) ∙ h in
+        let same : join (queuesOf queues m) a ≡ queuesOf queues m
+        = ap (λ (b : Bool). cond b (queuesOf queues m) (queuesOf queues m ++ (a ∷ []))) queued in
+        (upd-same (queuesOf queues) m (join (queuesOf queues m) a) same, room)
+
+    module _ (absent : has (take n (drop (9 * m + 1) queues)) a ≡ false) (fits : length (join (queuesOf queues m) a) ≤ 8) where
+      joins-end : join (queuesOf queues m) a ≡ queuesOf queues m ++ (a ∷ [])
+      joins-end =
+          ap (λ (b : Bool). cond b (queuesOf queues m) (queuesOf queues m ++ (a ∷ []))) (sym (ap (λ (q : List ℕ). has q a) counted) ∙ absent)
+
+      -- there is room for one more
+      pub one-more : n + 1 ≤ 8
+      one-more =
+          let long : length (join (queuesOf queues m) a) ≡ sizeIn queues m + 1
+          = ap length joins-end
+          ∙ length-append (queuesOf queues m) (a ∷ [])
+          ∙ ap (λ (k : ℕ). k + 1) (queue-length queues m room known) in
+          omega arith
+
+      pub enters : Becomes queues (set (set queues (9 * m + 1 + n) a) (9 * m) (n + 1)) m (join (queuesOf queues m) a)
+      enters =
+          let more : n + 1 ≤ 8 = one-more in
+          becomes (set queues (9 * m + 1 + n) a) (n + 1) (join (queuesOf queues m) a) (length-set queues (9 * m + 1 + n) a ∙ room .long) more
+          (take-set-le (9 * m) queues (9 * m + 1 + n) a (omega arith))
+          (drop-set-lt (9 * m + 9) queues (9 * m + 1 + n) a (omega arith))
+          (stored queues (9 * m + 1) n a (omega (arith, room .long)) ∙ ap (λ (q : List ℕ). q ++ (a ∷ [])) counted ∙ sym joins-end)
+
+    pub leaves : (after : List ℕ) (kept : ℕ) → Compacted queues after (9 * m + 1) n a kept
+        → Becomes queues (set after (9 * m) kept) m (leave (queuesOf queues m) a)
+    leaves after kept c =
+        let short : n ≤ 8 = omega (arith, room .bounded m) in
+        becomes after kept (leave (queuesOf queues m) a) (c .long) (omega (arith, c .fewer))
+        (part-before 0 (9 * m) (9 * m + 1) queues after (omega arith) (c .before))
+        (part-behind (9 * m + 9) (9 * m + 1 + n) queues after (omega arith) (c .behind))
+        (c .left ∙ ap (λ (q : List ℕ). leave q a) counted)

@@ -11,56 +11,58 @@ ghost use Rattle.mutex.specs.MutexParts.{Compacted};
 use table::bytes;
 
 // Lock: an actor that is not queued yet joins the end.
-pub fn join(entries: &mut [u8; 64], lens: &mut [usize; 8], m: usize, a: usize)
-    requires { ⌜ QueueRoom (now entries) (now lens) × (m < 8) × (a < 8)
-        × (length (joined (queuesOf (now entries) (now lens) m) a) ≤ 8) ⌝ }
-    ensures { λ _. ⌜ (queuesOf (now (entries .exit)) (now (lens .exit))
-        ≡ upd eqb (queuesOf (now (entries .entry)) (now (lens .entry))) m (joined (queuesOf (now (entries .entry)) (now (lens .entry)) m) a))
-        × QueueRoom (now (entries .exit)) (now (lens .exit)) ⌝ }
+pub fn join(queues: &mut [u8; 72], m: usize, a: usize)
+    requires { ⌜ QueueRoom (now queues) × (m < 8) × (a < 8)
+        × (length (joined (queuesOf (now queues) m) a) ≤ 8) ⌝ }
+    ensures { λ _. ⌜ (queuesOf (now (queues .exit))
+        ≡ upd eqb (queuesOf (now (queues .entry))) m (joined (queuesOf (now (queues .entry)) m) a))
+        × QueueRoom (now (queues .exit)) ⌝ }
 {
-    let at = 8 * m;
-    let n = lens[m];
+    let size = 9 * m;
+    let at = size + 1;
+    let n = bytes::wide(queues[size]);
     let actor = a as u8;
-    if queued(entries, at, n, actor) {
+    if queued(queues, at, n, actor) {
         return;
     }
-    entries[at + n] = actor;
-    lens[m] = n + 1;
+    queues[at + n] = actor;
+    queues[size] = (n + 1) as u8;
 }
 
 // Unlock: the actor is removed, owner or not.
-pub fn leave(entries: &mut [u8; 64], lens: &mut [usize; 8], m: usize, a: usize)
-    requires { ⌜ QueueRoom (now entries) (now lens) × (m < 8) × (a < 8) ⌝ }
-    ensures { λ _. ⌜ (queuesOf (now (entries .exit)) (now (lens .exit))
-        ≡ upd eqb (queuesOf (now (entries .entry)) (now (lens .entry))) m (left (queuesOf (now (entries .entry)) (now (lens .entry)) m) a))
-        × QueueRoom (now (entries .exit)) (now (lens .exit)) ⌝ }
+pub fn leave(queues: &mut [u8; 72], m: usize, a: usize)
+    requires { ⌜ QueueRoom (now queues) × (m < 8) × (a < 8) ⌝ }
+    ensures { λ _. ⌜ (queuesOf (now (queues .exit))
+        ≡ upd eqb (queuesOf (now (queues .entry))) m (left (queuesOf (now (queues .entry)) m) a))
+        × QueueRoom (now (queues .exit)) ⌝ }
 {
-    let n = lens[m];
-    let kept = compact(entries, 8 * m, n, a as u8);
-    lens[m] = kept;
+    let size = 9 * m;
+    let n = bytes::wide(queues[size]);
+    let kept = compact(queues, size + 1, n, a as u8);
+    queues[size] = kept as u8;
 }
 
 // Whether an actor owns a mutex: whether it is the first in its queue.
-pub fn owner(entries: &[u8; 64], lens: &[usize; 8], m: usize, a: usize) -> bool
-    requires { ⌜ QueueRoom (now entries) (now lens) × (m < 8) ⌝ }
-    ensures { λ r. ⌜ r ≡ owns (queuesOf (now (entries .entry)) (now (lens .entry)) m) a ⌝ }
+pub fn owner(queues: &[u8; 72], m: usize, a: usize) -> bool
+    requires { ⌜ QueueRoom (now queues) × (m < 8) ⌝ }
+    ensures { λ r. ⌜ r ≡ owns (queuesOf (now (queues .entry)) m) a ⌝ }
 {
-    let n = lens[m];
-    if n == 0 {
+    let size = 9 * m;
+    if queues[size] == 0 {
         return false;
     }
-    let first = bytes::wide(entries[8 * m]);
+    let first = bytes::wide(queues[size + 1]);
     a == first
 }
 
 // Whether an actor is among the n entries from `at`.
-fn queued(entries: &[u8; 64], at: usize, n: usize, actor: u8) -> bool
-    requires { ⌜ (length (now entries) ≡ 64) × (at + n ≤ 64) ⌝ }
-    ensures { λ r. ⌜ r ≡ has (take n (drop at (now (entries .entry)))) actor ⌝ }
+fn queued(queues: &[u8; 72], at: usize, n: usize, actor: u8) -> bool
+    requires { ⌜ (length (now queues) ≡ 72) × (at + n ≤ 72) ⌝ }
+    ensures { λ r. ⌜ r ≡ has (take n (drop at (now (queues .entry)))) actor ⌝ }
 {
     let mut i = 0;
     while i < n {
-        let b = entries[at + i];
+        let b = queues[at + i];
         if actor == b {
             return true;
         }
@@ -70,17 +72,17 @@ fn queued(entries: &[u8; 64], at: usize, n: usize, actor: u8) -> bool
 }
 
 // Those of the n entries from `at` that are not the actor's move to the front: how many they are.
-fn compact(entries: &mut [u8; 64], at: usize, n: usize, actor: u8) -> usize
-    requires { ⌜ (length (now entries) ≡ 64) × (at + n ≤ 64) ⌝ }
-    ensures { λ r. ⌜ Compacted (now (entries .entry)) (now (entries .exit)) at n actor r ⌝ }
+fn compact(queues: &mut [u8; 72], at: usize, n: usize, actor: u8) -> usize
+    requires { ⌜ (length (now queues) ≡ 72) × (at + n ≤ 72) ⌝ }
+    ensures { λ r. ⌜ Compacted (now (queues .entry)) (now (queues .exit)) at n actor r ⌝ }
 {
     let mut kept = 0;
     let mut i = 0;
     while i < n {
-        let b = entries[at + i];
+        let b = queues[at + i];
         i += 1;
         if actor != b {
-            entries[at + kept] = b;
+            queues[at + kept] = b;
             kept += 1;
         }
     }

@@ -7,7 +7,7 @@ use mathlib.Core.List.{List, [], _∷_, map}
 use Prim.Native.Nat.{ℕ, zero, suc, _+_, _*_, _^_, _<_, _≤_}
 use native.Mathlib.Omega.{arith}
 use lib.Dec.{ltb, lit<}
-use lib.ListN.{length, getD, take, replicate, length-replicate}
+use lib.ListN.{length, getD, take, drop, replicate, length-replicate}
 use lib.Seq.{take-length}
 use Rattle.table.specs.Outcome.{accepted as fine}
 use Rattle.trace.specs.Machine.{Name}
@@ -48,76 +48,73 @@ fresh-comms = fun-ext each
         ap (λ (c : ℕ). cond (ltb (x .position) 32) (commOf c) unposted) (getD-alike 256 (32 * x .actor + x .position) 0)
         ∙ either (ltb (x .position) 32)
 
-fresh-waiting : (log : List ℕ) → waitingOf log (zeros 16) (zeros 16) ≡ (λ p. [])
+fresh-waiting : (log : List ℕ) → waitingOf log (zeros 32) ≡ (λ p. [])
 fresh-waiting log = fun-ext each
   where
-    each : (p : Port) → waitingOf log (zeros 16) (zeros 16) p ≡ []
-    each p = rw (getD-alike {A = ℕ} 16 (portNumber p) 0)
+    each : (p : Port) → waitingOf log (zeros 32) p ≡ []
+    each p = rw (getD-alike {A = ℕ} 32 (2 * portNumber p) 0, getD-alike {A = ℕ} 32 (2 * portNumber p + 1) 0)
 
-fresh-queues : (entries : List ℕ) → queuesOf entries (zeros 8) ≡ (λ m. [])
-fresh-queues entries = fun-ext each
+fresh-queues : queuesOf (zeros 72) ≡ (λ m. [])
+fresh-queues = fun-ext each
   where
-    each : (m : ℕ) → queuesOf entries (zeros 8) m ≡ []
-    each m = rw (getD-alike {A = ℕ} 8 m 0)
+    each : (m : ℕ) → queuesOf (zeros 72) m ≡ []
+    each m = ap (λ (n : ℕ). take n (drop (9 * m + 1) (zeros 72))) (getD-alike {A = ℕ} 72 (9 * m) 0)
 
-fresh-site : (log entries : List ℕ) → siteOf (replicate 8 freshActor) (zeros 256) log (zeros 16) (zeros 16) entries (zeros 8) ≡ initial
+fresh-site : (log : List ℕ) → siteOf (replicate 8 freshActor) (zeros 256) log (zeros 32) (zeros 72) ≡ initial
 unfolding initial
-fresh-site log entries =
+fresh-site log =
     λ i. record {
       actor = fresh-records i;
       mail = record { comm = fresh-comms i; waiting = fresh-waiting log i };
-      queue = fresh-queues entries i;
+      queue = fresh-queues i;
     }
 
-start-zeros : (table schedule names′ : List ℕ) → Fresh table (zeros 256) (zeros 4096) (zeros 16) (zeros 16) (zeros 64) (zeros 8) names′
-    → Playing table schedule (zeros 256) (zeros 4096) (zeros 16) (zeros 16) (zeros 64) (zeros 8) names′ (replicate 8 freshActor) 0
+start-zeros : (table schedule names′ : List ℕ) → Fresh table (zeros 256) (zeros 4096) (zeros 32) (zeros 72) names′
+    → Playing table schedule (zeros 256) (zeros 4096) (zeros 32) (zeros 72) names′ (replicate 8 freshActor) 0
 start-zeros table schedule names′ F =
     record {
       accepted-table = F .accepted;
-      site = fresh-site (zeros 4096) (zeros 64);
+      site = fresh-site (zeros 4096);
       taken = refl;
       index = omega arith;
       actors-long = length-replicate 8 freshActor;
       eight = λ a. ap (λ (r : Actor). length (r .cells)) (getD-alike 8 a freshActor) ∙ length-replicate {A = ℕ} 8 0;
       mail-room = record {
-        comms-long = length-replicate {A = ℕ} 256 0;
-        log-long = length-replicate {A = ℕ} 4096 0;
-        heads-long = length-replicate {A = ℕ} 16 0;
-        tails-long = length-replicate {A = ℕ} 16 0;
-        ordered = λ n. omega arith;
-        bounded = λ n. omega (arith, getD-alike {A = ℕ} 16 n 0);
-        valued = λ j. subst (λ (c : ℕ). c < 2 ^ 42) (sym (getD-alike {A = ℕ} 256 j 0)) (lit< tt);
+        comms-room = record {
+          long = length-replicate {A = ℕ} 256 0;
+          valued = λ j. subst (λ (c : ℕ). c < 2 ^ 42) (sym (getD-alike {A = ℕ} 256 j 0)) (lit< tt);
+        };
+        log-room = record {
+          log-long = length-replicate {A = ℕ} 4096 0;
+          ends-long = length-replicate {A = ℕ} 32 0;
+          ordered = λ n. omega (arith, getD-alike {A = ℕ} 32 (2 * n) 0);
+          bounded = λ n. omega (arith, getD-alike {A = ℕ} 32 (2 * n + 1) 0);
+        };
       };
-      queue-room = record {
-        entries-long = length-replicate {A = ℕ} 64 0;
-        lens-long = length-replicate {A = ℕ} 8 0;
-        bounded = λ m. omega (arith, getD-alike {A = ℕ} 8 m 0);
-      };
-      tail-room = λ n. omega (arith, getD-alike {A = ℕ} 16 n 0);
+      queue-room = record { long = length-replicate {A = ℕ} 72 0; bounded = λ m. omega (arith, getD-alike {A = ℕ} 72 (9 * m) 0) };
+      tail-room = λ n. omega (arith, getD-alike {A = ℕ} 32 (2 * n + 1) 0);
       names-long = F .names-long;
       names-right = refl;
     }
 
 -- fresh arrays hold a fresh site
-pub playing-start : (table schedule comms log heads tails entries lens names′ : List ℕ) (actors : List Actor)
-    → Fresh table comms log heads tails entries lens names′ → actors ≡ replicate 8 freshActor
-    → Playing table schedule comms log heads tails entries lens names′ actors 0
-playing-start table schedule comms log heads tails entries lens names′ actors F e =
-    rw (F .comms-fresh, F .log-fresh, F .heads-fresh, F .tails-fresh, F .entries-fresh, F .lens-fresh, e)
+pub playing-start : (table schedule comms log ends queues names′ : List ℕ) (actors : List Actor)
+    → Fresh table comms log ends queues names′ → actors ≡ replicate 8 freshActor
+    → Playing table schedule comms log ends queues names′ actors 0
+playing-start table schedule comms log ends queues names′ actors F e =
+    rw (F .comms-fresh, F .log-fresh, F .ends-fresh, F .queues-fresh, e)
     (start-zeros table schedule names′
     (record {
       accepted = F .accepted;
       comms-fresh = refl;
       log-fresh = refl;
-      heads-fresh = refl;
-      tails-fresh = refl;
-      entries-fresh = refl;
-      lens-fresh = refl;
+      ends-fresh = refl;
+      queues-fresh = refl;
       names-long = F .names-long;
     }))
 
-module _ {table schedule comms log heads tails entries lens names′ : List ℕ} {actors : List Actor} {i : ℕ}
-    (P : Playing table schedule comms log heads tails entries lens names′ actors i) (through : length schedule ≤ i) where
+module _ {table schedule comms log ends queues names′ : List ℕ} {actors : List Actor} {i : ℕ}
+    (P : Playing table schedule comms log ends queues names′ actors i) (through : length schedule ≤ i) where
   all : i ≡ length schedule
   all = omega (arith, P .index)
 
@@ -130,11 +127,11 @@ module _ {table schedule comms log heads tails entries lens names′ : List ℕ}
   pub checks-end : (n : RefusalNumbers) → fine ≡ checkSchedule n table schedule
   checks-end n = sym (taken-checks table n initial 0 schedule taken-all)
 
-  pub ended : (r : Played) → r .actors ≡ actors → Ended table schedule comms log heads tails entries lens names′ r
+  pub ended : (r : Played) → r .actors ≡ actors → Ended table schedule comms log ends queues names′ r
   ended r e =
       record {
         site =
-            ap (λ (l : List Actor). siteOf l comms log heads tails entries lens) e ∙ P .site
+            ap (λ (l : List Actor). siteOf l comms log ends queues) e ∙ P .site
             ∙ ap (endState table) whole;
         actors-long = ap length e ∙ P .actors-long;
         eight = λ a. ap (λ (l : List Actor). length (getD l a freshActor .cells)) e ∙ P .eight a;

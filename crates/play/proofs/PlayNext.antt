@@ -42,10 +42,10 @@ map-more : (f : ℕ → Name) (l : List ℕ) (x : ℕ) → map f (l ++ (x ∷ []
 map-more f [] x = refl
 map-more f (y ∷ l) x = ap (λ (r : List Name). f y ∷ r) (map-more f l x)
 
-module _ {table schedule comms log heads tails entries lens names′ : List ℕ} {actors : List Actor} {i : ℕ}
-    (P : Playing table schedule comms log heads tails entries lens names′ actors i) where
+module _ {table schedule comms log ends queues names′ : List ℕ} {actors : List Actor} {i : ℕ}
+    (P : Playing table schedule comms log ends queues names′ actors i) where
   abbrev here : Site
-  here = siteOf actors comms log heads tails entries lens
+  here = siteOf actors comms log ends queues
 
   pub entries-so-far : i ≤ 256
   entries-so-far =
@@ -92,16 +92,16 @@ module _ {table schedule comms log heads tails entries lens names′ : List ℕ}
         still = unfinished-here true (lt-ltb (r .position) (countOf table a) left)
 
         -- the step's own view decides whether the actor is ready
-        ready-here : (test : Bool) → passes table (seenFrom r (mailOf comms log heads tails) (queuesOf entries lens)) a x ≡ test
+        ready-here : (test : Bool) → passes table (seenFrom r (mailOf comms log ends) (queuesOf queues)) a x ≡ test
             → ready table (reached table schedule i) a ≡ test
         unfolding ready
         ready-here test e =
             sym (ap (λ (s : Site). ready table s a) (P .site))
             ∙ rw (lt-ltb a (actorsOf table) in-table, lt-ltb (r .position) (countOf table a) left)
-            (ap (λ (s : Seen). not (waits x) || isSeen s) (see-parts here (seenFrom r (mailOf comms log heads tails) (queuesOf entries lens)) a (looks x) refl refl)
+            (ap (λ (s : Seen). not (waits x) || isSeen s) (see-parts here (seenFrom r (mailOf comms log ends) (queuesOf queues)) a (looks x) refl refl)
             ∙ e)
 
-        pub entry-waiting : passes table (seenFrom r (mailOf comms log heads tails) (queuesOf entries lens)) a x ≡ false
+        pub entry-waiting : passes table (seenFrom r (mailOf comms log ends) (queuesOf queues)) a x ≡ false
             → (n : RefusalNumbers) → refused (n .waiting) i ≡ checkSchedule n table schedule
         entry-waiting e n = sym (checks-here n ∙ rw (lt-ltb a (actorsOf table) in-table, still, ready-here false e))
 
@@ -116,7 +116,7 @@ module _ {table schedule comms log heads tails entries lens names′ : List ℕ}
             let long : length (take (i + 1) schedule) ≡ i + 1 = length-take-le (i + 1) schedule (omega arith) in
             omega arith
 
-        pub steppable : Steppable table a r comms log heads tails entries lens
+        pub steppable : Steppable table a r comms log ends queues
         steppable =
             record {
               accepted = P .accepted-table;
@@ -126,15 +126,15 @@ module _ {table schedule comms log heads tails entries lens names′ : List ℕ}
               mail-room = P .mail-room;
               queue-room = P .queue-room;
               tail-room = λ passing n.
-                  let small = room-more (ready-here true (ap (λ (w : Bool). not w || isSeen (see (seenFrom r (mailOf comms log heads tails) (queuesOf entries lens)) a (looks x))) passing)) in
+                  let small = room-more (ready-here true (ap (λ (w : Bool). not w || isSeen (see (seenFrom r (mailOf comms log ends) (queuesOf queues)) a (looks x))) passing)) in
                   omega (arith, P .tail-room n);
               join-room = λ m.
                   subst (λ (q : ℕ → List ℕ). length (join (q m) a) ≤ 8) (sym (ap (λ (s : Site). s .queue) (P .site)))
                   (join-most table (reached table schedule i) a (P .accepted-table) (reached-end table (take i schedule) (P .taken)) in-table m);
             }
 
-        module _ {comms′ log′ heads′ tails′ entries′ lens′ : List ℕ} {s : Stepped}
-            (T : StepTaken table a x r comms log heads tails entries lens comms′ log′ heads′ tails′ entries′ lens′ s) (go : s .ready ≡ true) where
+        module _ {comms′ log′ ends′ queues′ : List ℕ} {s : Stepped}
+            (T : StepTaken table a x r comms log ends queues comms′ log′ ends′ queues′ s) (go : s .ready ≡ true) where
           was-ready : ready table (reached table schedule i) a ≡ true
           was-ready = ready-here true (sym (T .ready-right) ∙ go)
 
@@ -144,7 +144,7 @@ module _ {table schedule comms log heads tails entries lens names′ : List ℕ}
           in-actors : a < length actors
           in-actors = omega (arith, P .actors-long, P .accepted-table .actors-most)
 
-          stepped : siteOf (set actors a (s .actor)) comms′ log′ heads′ tails′ entries′ lens′ ≡ step table here a
+          stepped : siteOf (set actors a (s .actor)) comms′ log′ ends′ queues′ ≡ step table here a
           unfolding step
           stepped =
               let records : recordsOf (set actors a (s .actor)) ≡ upd eqb (recordsOf actors) a (local (actionOf table a) x (see here a (looks x)) (recordOf r)) =
@@ -152,13 +152,13 @@ module _ {table schedule comms log heads tails entries lens names′ : List ℕ}
               ∙ ap (upd eqb (recordsOf actors) a)
               (T .took .record-next
               ∙ ap (λ (found : Seen). local (actionOf table a) x found (recordOf r))
-              (see-parts (seenFrom r (mailOf comms log heads tails) (queuesOf entries lens)) here a (looks x) refl refl)) in
+              (see-parts (seenFrom r (mailOf comms log ends) (queuesOf queues)) here a (looks x) refl refl)) in
               λ j. record { actor = records j; mail = T .took .mail-next j; queue = T .took .queue-next j }
 
           eight-next : EightCells (s .actor)
           eight-next =
               ap (λ (q : Record). length (q .cells)) (T .took .record-next)
-              ∙ cellsAfter-length (actionOf table a) x (see (seenFrom r (mailOf comms log heads tails) (queuesOf entries lens)) a (looks x)) (r .cells)
+              ∙ cellsAfter-length (actionOf table a) x (see (seenFrom r (mailOf comms log ends) (queuesOf queues)) a (looks x)) (r .cells)
               ∙ P .eight a
 
           eight-all : (j : ℕ) → EightCells (getD (set actors a (s .actor)) j freshActor)
@@ -184,7 +184,7 @@ module _ {table schedule comms log heads tails entries lens names′ : List ℕ}
               ∙ ap₂ (λ (l : List Name) (y : Name). l ++ (y ∷ [])) (P .names-right) named
               ∙ sym (ap (names (machine table) initial) one-more ∙ names-more (machine table) initial (take i schedule) a)
 
-          pub playing-next : Playing table schedule comms′ log′ heads′ tails′ entries′ lens′ (set names′ i (32 * a + r .position)) (set actors a (s .actor)) (i + 1)
+          pub playing-next : Playing table schedule comms′ log′ ends′ queues′ (set names′ i (32 * a + r .position)) (set actors a (s .actor)) (i + 1)
           playing-next =
               record {
                 accepted-table = P .accepted-table;

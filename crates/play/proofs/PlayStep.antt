@@ -22,12 +22,12 @@ use Rattle.play.proofs.Playing.{Playing}
 use Rattle.play.proofs.PlayNext.{entry-finished, entry-waiting, steppable, room-here, playing-next}
 
 -- what a halt before the end says of the schedule is all that is to be shown
-pub refusal : {table schedule comms log heads tails entries lens names′ : List ℕ} (r : Played) → (r .halt ≡ End → ⊥)
-    → ((n : RefusalNumbers) → haltOf n (r .halt) ≡ checkSchedule n table schedule) → PlayedRight table schedule comms log heads tails entries lens names′ r
+pub refusal : {table schedule comms log ends queues names′ : List ℕ} (r : Played) → (r .halt ≡ End → ⊥)
+    → ((n : RefusalNumbers) → haltOf n (r .halt) ≡ checkSchedule n table schedule) → PlayedRight table schedule comms log ends queues names′ r
 refusal r before h = record { halted = h; ended = λ e. absurd (before e) }
 
-module _ {table schedule comms log heads tails entries lens names′ : List ℕ} {actors : List Actor} {i : ℕ}
-    (P : Playing table schedule comms log heads tails entries lens names′ actors i) (more : i < length schedule)
+module _ {table schedule comms log ends queues names′ : List ℕ} {actors : List Actor} {i : ℕ}
+    (P : Playing table schedule comms log ends queues names′ actors i) (more : i < length schedule)
     (a : ℕ) (entry : a ≡ getD schedule i 0) (r : Actor) (own : r ≡ getD actors a freshActor) where
   -- what holds of the entry's actor and its record holds of a and r
   as-read : (Q : ℕ → Actor → Type 0) → Q (getD schedule i 0) (getD actors (getD schedule i 0) freshActor) → Q a r
@@ -41,38 +41,38 @@ module _ {table schedule comms log heads tails entries lens names′ : List ℕ}
       (entry-finished P more)
 
   pub waiting-as : a < actorsOf table → r .position < countOf table a
-      → passes table (seenFrom r (mailOf comms log heads tails) (queuesOf entries lens)) a (nextOf table a r) ≡ false
+      → passes table (seenFrom r (mailOf comms log ends) (queuesOf queues)) a (nextOf table a r) ≡ false
       → (n : RefusalNumbers) → refused (n .waiting) i ≡ checkSchedule n table schedule
   waiting-as =
       as-read
       (λ b q.
       b < actorsOf table → q .position < countOf table b
-      → passes table (seenFrom q (mailOf comms log heads tails) (queuesOf entries lens)) b (nextOf table b q) ≡ false
+      → passes table (seenFrom q (mailOf comms log ends) (queuesOf queues)) b (nextOf table b q) ≡ false
       → (n : RefusalNumbers) → refused (n .waiting) i ≡ checkSchedule n table schedule)
       (entry-waiting P more)
 
-  pub steppable-as : a < actorsOf table → r .position < countOf table a → Steppable table a r comms log heads tails entries lens
+  pub steppable-as : a < actorsOf table → r .position < countOf table a → Steppable table a r comms log ends queues
   steppable-as =
-      as-read (λ b q. b < actorsOf table → q .position < countOf table b → Steppable table b q comms log heads tails entries lens) (steppable P more)
+      as-read (λ b q. b < actorsOf table → q .position < countOf table b → Steppable table b q comms log ends queues) (steppable P more)
 
-  pub room-as : {comms′ log′ heads′ tails′ entries′ lens′ : List ℕ} {s : Stepped} → a < actorsOf table → r .position < countOf table a
-      → StepTaken table a (nextOf table a r) r comms log heads tails entries lens comms′ log′ heads′ tails′ entries′ lens′ s → s .ready ≡ true
+  pub room-as : {comms′ log′ ends′ queues′ : List ℕ} {s : Stepped} → a < actorsOf table → r .position < countOf table a
+      → StepTaken table a (nextOf table a r) r comms log ends queues comms′ log′ ends′ queues′ s → s .ready ≡ true
       → i < 256
-  room-as {comms′} {log′} {heads′} {tails′} {entries′} {lens′} {s} =
+  room-as {comms′} {log′} {ends′} {queues′} {s} =
       as-read
       (λ b q.
       b < actorsOf table → q .position < countOf table b
-      → StepTaken table b (nextOf table b q) q comms log heads tails entries lens comms′ log′ heads′ tails′ entries′ lens′ s → s .ready ≡ true
+      → StepTaken table b (nextOf table b q) q comms log ends queues comms′ log′ ends′ queues′ s → s .ready ≡ true
       → i < 256)
       (λ in-table left taken go. room-here P more in-table left taken go)
 
-  pub next-as : {comms′ log′ heads′ tails′ entries′ lens′ : List ℕ} {s : Stepped} → a < actorsOf table → r .position < countOf table a
-      → StepTaken table a (nextOf table a r) r comms log heads tails entries lens comms′ log′ heads′ tails′ entries′ lens′ s → s .ready ≡ true
-      → Playing table schedule comms′ log′ heads′ tails′ entries′ lens′ (set names′ i (32 * a + r .position)) (set actors a (s .actor)) (i + 1)
-  next-as {comms′} {log′} {heads′} {tails′} {entries′} {lens′} {s} =
+  pub next-as : {comms′ log′ ends′ queues′ : List ℕ} {s : Stepped} → a < actorsOf table → r .position < countOf table a
+      → StepTaken table a (nextOf table a r) r comms log ends queues comms′ log′ ends′ queues′ s → s .ready ≡ true
+      → Playing table schedule comms′ log′ ends′ queues′ (set names′ i (32 * a + r .position)) (set actors a (s .actor)) (i + 1)
+  next-as {comms′} {log′} {ends′} {queues′} {s} =
       as-read
       (λ b q.
       b < actorsOf table → q .position < countOf table b
-      → StepTaken table b (nextOf table b q) q comms log heads tails entries lens comms′ log′ heads′ tails′ entries′ lens′ s → s .ready ≡ true
-      → Playing table schedule comms′ log′ heads′ tails′ entries′ lens′ (set names′ i (32 * b + q .position)) (set actors b (s .actor)) (i + 1))
+      → StepTaken table b (nextOf table b q) q comms log ends queues comms′ log′ ends′ queues′ s → s .ready ≡ true
+      → Playing table schedule comms′ log′ ends′ queues′ (set names′ i (32 * b + q .position)) (set actors b (s .actor)) (i + 1))
       (λ in-table left taken go. playing-next P more in-table left taken go)

@@ -37,7 +37,7 @@ use Rattle.model.proofs.ReportBoundCounts.{howMany-most}
 use Rattle.model.proofs.ReportBoundLengths.{stepped-actor}
 use Rattle.model.proofs.ReportBound.{entries-room}
 use Rattle.names.specs.InByte.{nameOf}
-use Rattle.state.specs.State.{recordOf, recordsOf, freshActor, mailOf, queuesOf, siteOf, MailRoom, QueueRoom, EightCells, nextOf, seenFrom}
+use Rattle.state.specs.State.{recordOf, recordsOf, freshActor, tailIn, mailOf, queuesOf, siteOf, MailRoom, QueueRoom, EightCells, nextOf, seenFrom}
 use Rattle.step.specs.StepParts.{Steppable, StepTaken, Took}
 use Rattle.state.specs.declared.Actor.{Actor}
 use Rattle.step.specs.declared.Stepped.{Stepped}
@@ -48,16 +48,16 @@ use Rattle.play.proofs.Prefix.{accepted-more, final-more, names-more, c
 abbrev pub reached : List ℕ → List ℕ → ℕ → Site
 reached table schedule i = final (machine table) initial (take i schedule)
 
-pub record Playing (table schedule comms log heads tails entries lens names′ : List ℕ) (actors : List Actor) (i : ℕ) : Type 0 where
+pub record Playing (table schedule comms log ends queues names′ : List ℕ) (actors : List Actor) (i : ℕ) : Type 0 where
   pub accepted-table : WellFormed table
-  pub site : siteOf actors comms log heads tails entries lens ≡ reached table schedule i
+  pub site : siteOf actors comms log ends queues ≡ reached table schedule i
   pub taken : accepted (machine table) initial (take i schedule) ≡ true
   pub index : i ≤ length schedule
   pub actors-long : length actors ≡ 8
   pub eight : (a : ℕ) → EightCells (getD actors a freshActor)
-  pub mail-room : MailRoom comms log heads tails
-  pub queue-room : QueueRoom entries lens
-  pub tail-room : (n : ℕ) → getD tails n 0 ≤ i
+  pub mail-room : MailRoom comms log ends
+  pub queue-room : QueueRoom queues
+  pub tail-room : (n : ℕ) → tailIn ends n ≤ i
   pub names-long : length names′ ≡ 256
   pub names-right : map nameOf (take i names′) ≡ names (machine table) initial (take i schedule)
 

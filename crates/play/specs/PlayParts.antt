@@ -17,14 +17,12 @@ use Rattle.play.specs.declared.Halt.the-variants.{End, At}
 use Rattle.play.specs.declared.Played.{Played}
 
 -- an accepted table, and arrays of zeros
-pub record Fresh (table comms log heads tails entries lens names′ : List ℕ) : Type 0 where
+pub record Fresh (table comms log ends queues names′ : List ℕ) : Type 0 where
   pub accepted : WellFormed table
   pub comms-fresh : comms ≡ replicate 256 0
   pub log-fresh : log ≡ replicate 4096 0
-  pub heads-fresh : heads ≡ replicate 16 0
-  pub tails-fresh : tails ≡ replicate 16 0
-  pub entries-fresh : entries ≡ replicate 64 0
-  pub lens-fresh : lens ≡ replicate 8 0
+  pub ends-fresh : ends ≡ replicate 32 0
+  pub queues-fresh : queues ≡ replicate 72 0
   pub names-long : length names′ ≡ 256
 
 -- document 01's outcome for where a schedule halts, by the numbers of its refusals
@@ -33,16 +31,16 @@ haltOf n End = accepted
 haltOf n (At stop) = stopOf n stop
 
 -- the end state, in arrays
-pub record Ended (table schedule comms log heads tails entries lens names′ : List ℕ) (r : Played) : Type 0 where
-  pub site : siteOf (r .actors) comms log heads tails entries lens ≡ endState table schedule
+pub record Ended (table schedule comms log ends queues names′ : List ℕ) (r : Played) : Type 0 where
+  pub site : siteOf (r .actors) comms log ends queues ≡ endState table schedule
   pub actors-long : length (r .actors) ≡ 8
   pub eight : (a : ℕ) → EightCells (getD (r .actors) a freshActor)
-  pub mail-room : MailRoom comms log heads tails
-  pub queue-room : QueueRoom entries lens
+  pub mail-room : MailRoom comms log ends
+  pub queue-room : QueueRoom queues
   pub entries-most : length schedule ≤ 256
   pub names-long : length names′ ≡ 256
   pub names-right : map nameOf (take (length schedule) names′) ≡ names (machine table) initial schedule
 
-pub record PlayedRight (table schedule comms log heads tails entries lens names′ : List ℕ) (r : Played) : Type 0 where
+pub record PlayedRight (table schedule comms log ends queues names′ : List ℕ) (r : Played) : Type 0 where
   pub halted : (n : RefusalNumbers) → haltOf n (r .halt) ≡ checkSchedule n table schedule
-  pub ended : r .halt ≡ End → Ended table schedule comms log heads tails entries lens names′ r
+  pub ended : r .halt ≡ End → Ended table schedule comms log ends queues names′ r

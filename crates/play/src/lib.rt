@@ -24,15 +24,13 @@ pub fn play(
     schedule: &[u8],
     comms: &mut [u64; 256],
     log: &mut [u8; 4096],
-    heads: &mut [usize; 16],
-    tails: &mut [usize; 16],
-    entries: &mut [u8; 64],
-    lens: &mut [usize; 8],
+    ends: &mut [usize; 32],
+    queues: &mut [u8; 72],
     names: &mut [u8; 256],
 ) -> Played
-    requires { ⌜ Fresh (now table) (now comms) (now log) (now heads) (now tails) (now entries) (now lens) (now names) ⌝ }
-    ensures { λ r. ⌜ PlayedRight (now (table .entry)) (now (schedule .entry)) (now (comms .exit)) (now (log .exit)) (now (heads .exit)) (now (tails .exit))
-        (now (entries .exit)) (now (lens .exit)) (now (names .exit)) r ⌝ }
+    requires { ⌜ Fresh (now table) (now comms) (now log) (now ends) (now queues) (now names) ⌝ }
+    ensures { λ r. ⌜ PlayedRight (now (table .entry)) (now (schedule .entry)) (now (comms .exit)) (now (log .exit)) (now (ends .exit))
+        (now (queues .exit)) (now (names .exit)) r ⌝ }
 {
     let n = table::access::actors(table);
     let fresh = Actor::fresh();
@@ -54,7 +52,7 @@ pub fn play(
                 actors,
             };
         }
-        let s = step::step(table, a, r, comms, log, heads, tails, entries, lens);
+        let s = step::step(table, a, r, comms, log, ends, queues);
         let ready = s.ready;
         if ready {
             let next = s.actor;

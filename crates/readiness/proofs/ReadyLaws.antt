@@ -29,24 +29,24 @@ use Rattle.look.proofs.LookParts.{see-parts}
 
 -- ---- one actor
 
-module _ (table : List ℕ) (a : ℕ) (r : Actor) (comms entries lens : List ℕ) where
-  pub looks-finished : countOf table a ≤ r .position → (log heads tails : List ℕ) → false ≡ looksReady table a r comms entries lens log heads tails
-  looks-finished h log heads tails = rw (le-ltb (r .position) (countOf table a) h)
+module _ (table : List ℕ) (a : ℕ) (r : Actor) (comms queues : List ℕ) where
+  pub looks-finished : countOf table a ≤ r .position → (log ends : List ℕ) → false ≡ looksReady table a r comms queues log ends
+  looks-finished h log ends = rw (le-ltb (r .position) (countOf table a) h)
 
   pub looks-by : (x : Action) → nextOf table a r ≡ x → r .position < countOf table a → (b : Bool)
-      → ((log heads tails : List ℕ) → b ≡ passes table (seenFrom r (mailOf comms log heads tails) (queuesOf entries lens)) a x)
-      → (log heads tails : List ℕ) → b ≡ looksReady table a r comms entries lens log heads tails
-  looks-by x e h b seen log heads tails =
+      → ((log ends : List ℕ) → b ≡ passes table (seenFrom r (mailOf comms log ends) (queuesOf queues)) a x)
+      → (log ends : List ℕ) → b ≡ looksReady table a r comms queues log ends
+  looks-by x e h b seen log ends =
       rw (lt-ltb (r .position) (countOf table a) h)
-      (seen log heads tails ∙ ap (passes table (seenFrom r (mailOf comms log heads tails) (queuesOf entries lens)) a) (sym e))
+      (seen log ends ∙ ap (passes table (seenFrom r (mailOf comms log ends) (queuesOf queues)) a) (sym e))
 
-pub ready-looks : (table : List ℕ) (actors : List Actor) (comms entries lens log heads tails : List ℕ) (a : ℕ) → a < actorsOf table
-    → ready table (siteWith actors comms entries lens log heads tails) a ≡ looksReady table a (getD actors a freshActor) comms entries lens log heads tails
+pub ready-looks : (table : List ℕ) (actors : List Actor) (comms queues log ends : List ℕ) (a : ℕ) → a < actorsOf table
+    → ready table (siteWith actors comms queues log ends) a ≡ looksReady table a (getD actors a freshActor) comms queues log ends
 unfolding ready
-ready-looks table actors comms entries lens log heads tails a h =
+ready-looks table actors comms queues log ends a h =
     rw (lt-ltb a (actorsOf table) h)
     (ap (λ (s : Seen). ltb (getD actors a freshActor .position) (countOf table a) && (not (waits (nextOf table a (getD actors a freshActor))) || isSeen s))
-    (see-parts (siteWith actors comms entries lens log heads tails) (seenFrom (getD actors a freshActor) (mailOf comms log heads tails) (queuesOf entries lens)) a
+    (see-parts (siteWith actors comms queues log ends) (seenFrom (getD actors a freshActor) (mailOf comms log ends) (queuesOf queues)) a
     (looks (nextOf table a (getD actors a freshActor))) refl refl))
 
 -- ---- the mask
@@ -83,9 +83,9 @@ all-end f n a h = let e : n - a ≡ 0 = omega arith in ap (λ (c : ℕ). all f c
 
 -- ---- the answer
 
-module _ (table : List ℕ) (actors : List Actor) (comms entries lens log heads tails : List ℕ) where
+module _ (table : List ℕ) (actors : List Actor) (comms queues log ends : List ℕ) where
   abbrev s : Site
-  s = siteWith actors comms entries lens log heads tails
+  s = siteWith actors comms queues log ends
 
   pub answer-right : (r : Readiness) → r .mask ≡ readyMask table s → r .count ≡ ones (r .mask)
       → endingAs (r .ending) ≡ endingOf (everyoneFinished table (actorsOf table) actors) (r .count) → readinessOf r ≡ readyAnswer table s

@@ -1,6 +1,6 @@
 -- The ready answer's parts over the engine's arrays.
 -- Assumes nothing: these are definitions.
-use Prim.Native.Nat.{ℕ, _<_, _^_}
+use Prim.Native.Nat.{ℕ, _<_}
 use mathlib.Core.Path.{_≡_}
 use mathlib.Core.Bool.{Bool, not, _&&_}
 use mathlib.Core.List.{List}
@@ -11,32 +11,30 @@ use Rattle.table.specs.Promise.{WellFormed}
 use Rattle.model.specs.Site.{Site}
 use Rattle.model.specs.Step.{passes}
 use Rattle.model.specs.Ready as Model
-use Rattle.state.specs.State.{mailOf, queuesOf, siteOf, freshActor, QueueRoom, nextOf, seenFrom}
+use Rattle.state.specs.State.{mailOf, queuesOf, siteOf, freshActor, CommsRoom, QueueRoom, nextOf, seenFrom}
 use Rattle.state.specs.declared.Actor.{Actor}
 
 -- the state, with the ports' logs, in which readiness does not look
-abbrev pub siteWith : List Actor → (comms entries lens log heads tails : List ℕ) → Site
-siteWith actors comms entries lens log heads tails = siteOf actors comms log heads tails entries lens
+abbrev pub siteWith : List Actor → (comms queues log ends : List ℕ) → Site
+siteWith actors comms queues log ends = siteOf actors comms log ends queues
 
 -- what a look at one actor may rely on
-pub record Looked (table : List ℕ) (a : ℕ) (comms entries lens : List ℕ) : Type 0 where
+pub record Looked (table : List ℕ) (a : ℕ) (comms queues : List ℕ) : Type 0 where
   pub accepted : WellFormed table
   pub actor : a < actorsOf table
-  pub comms-long : length comms ≡ 256
-  pub valued : (j : ℕ) → getD comms j 0 < 2 ^ 42
-  pub queue-room : QueueRoom entries lens
+  pub comms-room : CommsRoom comms
+  pub queue-room : QueueRoom queues
 
-pub record Answerable (table : List ℕ) (actors : List Actor) (comms entries lens : List ℕ) : Type 0 where
+pub record Answerable (table : List ℕ) (actors : List Actor) (comms queues : List ℕ) : Type 0 where
   pub accepted : WellFormed table
   pub actors-long : length actors ≡ 8
-  pub comms-long : length comms ≡ 256
-  pub valued : (j : ℕ) → getD comms j 0 < 2 ^ 42
-  pub queue-room : QueueRoom entries lens
+  pub comms-room : CommsRoom comms
+  pub queue-room : QueueRoom queues
 
 -- an actor with the record r is not finished and need not wait
-abbrev pub looksReady : List ℕ → ℕ → Actor → (comms entries lens log heads tails : List ℕ) → Bool
-looksReady table a r comms entries lens log heads tails =
-    ltb (r .position) (countOf table a) && passes table (seenFrom r (mailOf comms log heads tails) (queuesOf entries lens)) a (nextOf table a r)
+abbrev pub looksReady : List ℕ → ℕ → Actor → (comms queues log ends : List ℕ) → Bool
+looksReady table a r comms queues log ends =
+    ltb (r .position) (countOf table a) && passes table (seenFrom r (mailOf comms log ends) (queuesOf queues)) a (nextOf table a r)
 
 abbrev pub everyoneFinished : List ℕ → ℕ → List Actor → Bool
 everyoneFinished table n actors = Model.all (λ a. not (ltb (getD actors a freshActor .position) (countOf table a))) n 0

@@ -17,15 +17,14 @@ pub fn answer(
     table: &[u8],
     actors: [Actor; 8],
     comms: &[u64; 256],
-    entries: &[u8; 64],
-    lens: &[usize; 8],
+    queues: &[u8; 72],
 ) -> Readiness
-    requires { ⌜ Answerable (now table) actors (now comms) (now entries) (now lens) ⌝ }
-    ensures { λ r. ⌜ ((log heads tails : List ℕ) → readinessOf r
-        ≡ readyAnswer (now (table .entry)) (siteWith actors (now (comms .entry)) (now (entries .entry)) (now (lens .entry)) log heads tails)) ⌝ }
+    requires { ⌜ Answerable (now table) actors (now comms) (now queues) ⌝ }
+    ensures { λ r. ⌜ ((log ends : List ℕ) → readinessOf r
+        ≡ readyAnswer (now (table .entry)) (siteWith actors (now (comms .entry)) (now (queues .entry)) log ends)) ⌝ }
 {
     let n = table::access::actors(table);
-    let mask = ready_mask(table, n, actors, comms, entries, lens);
+    let mask = ready_mask(table, n, actors, comms, queues);
     let count = u32::count_ones(mask);
     if all_finished(table, n, actors) {
         return Readiness {
@@ -54,19 +53,18 @@ fn ready_mask(
     n: usize,
     actors: [Actor; 8],
     comms: &[u64; 256],
-    entries: &[u8; 64],
-    lens: &[usize; 8],
+    queues: &[u8; 72],
 ) -> u32
-    requires { ⌜ Answerable (now table) actors (now comms) (now entries) (now lens) × (n ≡ actorsOf (now table)) ⌝ }
-    ensures { λ m. ⌜ ((log heads tails : List ℕ) → m
-        ≡ readyMask (now (table .entry)) (siteWith actors (now (comms .entry)) (now (entries .entry)) (now (lens .entry)) log heads tails)) ⌝ }
+    requires { ⌜ Answerable (now table) actors (now comms) (now queues) × (n ≡ actorsOf (now table)) ⌝ }
+    ensures { λ m. ⌜ ((log ends : List ℕ) → m
+        ≡ readyMask (now (table .entry)) (siteWith actors (now (comms .entry)) (now (queues .entry)) log ends)) ⌝ }
 {
     let mut m = 0;
     let mut a = n;
     while 0 < a {
         a -= 1;
         let r = actors[a];
-        m = bit(is_ready(table, a, r, comms, entries, lens)) + 2 * m;
+        m = bit(is_ready(table, a, r, comms, queues)) + 2 * m;
     }
     m
 }
@@ -77,12 +75,11 @@ fn is_ready(
     a: usize,
     r: Actor,
     comms: &[u64; 256],
-    entries: &[u8; 64],
-    lens: &[usize; 8],
+    queues: &[u8; 72],
 ) -> bool
-    requires { ⌜ Looked (now table) a (now comms) (now entries) (now lens) ⌝ }
-    ensures { λ b. ⌜ ((log heads tails : List ℕ) → b
-        ≡ looksReady (now (table .entry)) a r (now (comms .entry)) (now (entries .entry)) (now (lens .entry)) log heads tails) ⌝ }
+    requires { ⌜ Looked (now table) a (now comms) (now queues) ⌝ }
+    ensures { λ b. ⌜ ((log ends : List ℕ) → b
+        ≡ looksReady (now (table .entry)) a r (now (comms .entry)) (now (queues .entry)) log ends) ⌝ }
 {
     let k = r.position;
     if table::access::actions(table, a) <= k {
@@ -107,8 +104,7 @@ fn is_ready(
         Action::Unlock { mutex: _ } => true,
         Action::MutexTest { result: _, list: _ } => true,
         Action::MutexWait { result: _, list } => look::is_seen(look::mutexes(
-            entries,
-            lens,
+            queues,
             a,
             list,
         )),

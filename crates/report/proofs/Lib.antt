@@ -3,3 +3,4 @@ pub mod ReportActors
 pub mod ReportComms
 pub mod ReportLists
 pub mod ReportBoxes
+pub mod ReportMutexes

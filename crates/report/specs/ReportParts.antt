@@ -1,9 +1,8 @@
 -- What the report's writers promise, and what writing a report asks.
 -- Assumes nothing: these are definitions.
-use Prim.Native.Nat.{ℕ, _<_, _≤_, _^_}
-use mathlib.Core.Path.{_≡_}
+use Prim.Native.Nat.{ℕ, _<_, _≤_}
 use mathlib.Core.List.{List, _++_, map}
-use lib.ListN.{length, getD, take, drop}
+use lib.ListN.{length, take, drop}
 use Rattle.table.specs.Format.{countOf}
 use Rattle.table.specs.Promise.{WellFormed}
 use Rattle.trace.specs.Machine.{Name}
@@ -28,41 +27,28 @@ actionsBytes table comms n = parts (λ a. ownBytes comms a (countOf table a)) n 
 abbrev pub stepsBytes : (log : List ℕ) → ℕ → ℕ → List ℕ
 stepsBytes log from n = nameBytes (map nameOf (take n (drop from log)))
 
-abbrev pub portBytes : (log heads tails : List ℕ) → ℕ → List ℕ
-portBytes log heads tails port = nameBytes (map nameOf (pendingIn log heads tails port))
+abbrev pub portBytes : (log ends : List ℕ) → ℕ → List ℕ
+portBytes log ends port = nameBytes (map nameOf (pendingIn log ends port))
 
-abbrev pub queueOf : (log heads tails : List ℕ) → ℕ → List Name
-queueOf log heads tails m =
-    waitingOf log heads tails (record { mailbox = m; side = sends }) ++ waitingOf log heads tails (record { mailbox = m; side = receives })
+abbrev pub queueOf : (log ends : List ℕ) → ℕ → List Name
+queueOf log ends m =
+    waitingOf log ends (record { mailbox = m; side = sends }) ++ waitingOf log ends (record { mailbox = m; side = receives })
 
-abbrev pub boxesBytes : (log heads tails : List ℕ) → ℕ → List ℕ
-boxesBytes log heads tails n = parts (λ m. boxBytes (queueOf log heads tails m)) n 0
+abbrev pub boxesBytes : (log ends : List ℕ) → ℕ → List ℕ
+boxesBytes log ends n = parts (λ m. boxBytes (queueOf log ends m)) n 0
 
 -- the first n mutexes
-abbrev pub mutexesBytes : (entries lens : List ℕ) → ℕ → List ℕ
-mutexesBytes entries lens n = parts (λ m. mutexBytes (queuesOf entries lens m)) n 0
-
--- the communications have their array's length, and each value fits 32 bits
-pub record CommsRoom (comms : List ℕ) : Type 0 where
-  pub long : length comms ≡ 256
-  pub valued : (j : ℕ) → getD comms j 0 < 2 ^ 42
-
--- the ports' logs have their arrays' lengths, and none runs over
-pub record LogRoom (log heads tails : List ℕ) : Type 0 where
-  pub log-long : length log ≡ 4096
-  pub heads-long : length heads ≡ 16
-  pub tails-long : length tails ≡ 16
-  pub ordered : (n : ℕ) → getD heads n 0 ≤ getD tails n 0
-  pub bounded : (n : ℕ) → getD tails n 0 ≤ 256
+abbrev pub mutexesBytes : (queues : List ℕ) → ℕ → List ℕ
+mutexesBytes queues n = parts (λ m. mutexBytes (queuesOf queues m)) n 0
 
 -- each actor's position fits a byte
 abbrev pub Positions : List Actor → Type 0
 Positions actors = (a : ℕ) → recordsOf actors a .position < 256
 
 -- what writing a report asks: an accepted table, a state in its arrays, and room for the report
-pub record Reportable (table : List ℕ) (actors : List Actor) (comms log heads tails entries lens buf : List ℕ) : Type 0 where
+pub record Reportable (table : List ℕ) (actors : List Actor) (comms log ends queues buf : List ℕ) : Type 0 where
   pub accepted : WellFormed table
   pub positions : Positions actors
-  pub mail : MailRoom comms log heads tails
-  pub queues : QueueRoom entries lens
-  pub room : length (report table (siteOf actors comms log heads tails entries lens)) ≤ length buf
+  pub mail-room : MailRoom comms log ends
+  pub queue-room : QueueRoom queues
+  pub room : length (report table (siteOf actors comms log ends queues)) ≤ length buf

@@ -6,11 +6,12 @@ ghost use Prim.Native.Nat.{ℕ, _+_, _-_, _*_, _<_, _≤_, _^_};
 ghost use lib.ListN.{length, getD, take, drop};
 ghost use Rattle.table.specs.Format.{countOf};
 ghost use Rattle.model.specs.Report.{long, parts, actorBytes, commBytes, boxBytes, mutexBytes, report};
-ghost use Rattle.state.specs.State.{recordOf, commOf, siteOf, QueueRoom};
+ghost use Rattle.state.specs.State.{recordOf, commOf, headIn, tailIn, queuesOf, siteOf, CommsRoom, LogRoom, QueueRoom};
 ghost use Rattle.writing.specs.Written.{Wrote};
-ghost use Rattle.report.specs.ReportParts.{actorsBytes, ownBytes, actionsBytes, stepsBytes, portBytes, queueOf, boxesBytes, mutexesBytes, CommsRoom, LogRoom, Positions, Reportable};
+ghost use Rattle.report.specs.ReportParts.{actorsBytes, ownBytes, actionsBytes, stepsBytes, portBytes, queueOf, boxesBytes, mutexesBytes, Positions, Reportable};
 use state::Actor;
 use table::access;
+use table::bytes;
 
 // Two bytes.
 fn two(a: u8, b: u8, buf: &mut [u8]) -> usize
@@ -162,101 +163,98 @@ fn names(log: &[u8; 4096], from: usize, count: usize, buf: &mut [u8]) -> usize
 }
 
 // How many steps are pending at a port.
-fn waiting(heads: &[usize; 16], tails: &[usize; 16], port: usize) -> usize
-    requires { ⌜ (length (now heads) ≡ 16) × (length (now tails) ≡ 16) × (port < 16) × (getD (now heads) port 0 ≤ getD (now tails) port 0) ⌝ }
-    ensures { λ r. ⌜ r ≡ getD (now (tails .entry)) port 0 - getD (now (heads .entry)) port 0 ⌝ }
+fn waiting(ends: &[usize; 32], port: usize) -> usize
+    requires { ⌜ (length (now ends) ≡ 32) × (port < 16) × (headIn (now ends) port ≤ tailIn (now ends) port) ⌝ }
+    ensures { λ r. ⌜ r ≡ tailIn (now (ends .entry)) port - headIn (now (ends .entry)) port ⌝ }
 {
-    tails[port] - heads[port]
+    ends[2 * port + 1] - ends[2 * port]
 }
 
 // The steps that are pending at a port.
 fn port_part(
     log: &[u8; 4096],
-    heads: &[usize; 16],
-    tails: &[usize; 16],
+    ends: &[usize; 32],
     port: usize,
     buf: &mut [u8],
 ) -> usize
-    requires { ⌜ LogRoom (now log) (now heads) (now tails) × (port < 16) × (length (portBytes (now log) (now heads) (now tails) port) ≤ length (now buf)) ⌝ }
-    ensures { λ r. ⌜ Wrote (now (buf .entry)) (portBytes (now (log .entry)) (now (heads .entry)) (now (tails .entry)) port) (now (buf .exit)) r ⌝ }
+    requires { ⌜ LogRoom (now log) (now ends) × (port < 16) × (length (portBytes (now log) (now ends) port) ≤ length (now buf)) ⌝ }
+    ensures { λ r. ⌜ Wrote (now (buf .entry)) (portBytes (now (log .entry)) (now (ends .entry)) port) (now (buf .exit)) r ⌝ }
 {
-    let head = heads[port];
-    let count = waiting(heads, tails, port);
+    let head = ends[2 * port];
+    let count = waiting(ends, port);
     names(log, 256 * port + head, count, buf)
 }
 
 // A mailbox's queue: its length and its steps.
 fn box_part(
     log: &[u8; 4096],
-    heads: &[usize; 16],
-    tails: &[usize; 16],
+    ends: &[usize; 32],
     m: usize,
     buf: &mut [u8],
 ) -> usize
-    requires { ⌜ LogRoom (now log) (now heads) (now tails) × (m < 8)
-        × (length (boxBytes (queueOf (now log) (now heads) (now tails) m)) ≤ length (now buf)) ⌝ }
-    ensures { λ r. ⌜ Wrote (now (buf .entry)) (boxBytes (queueOf (now (log .entry)) (now (heads .entry)) (now (tails .entry)) m)) (now (buf .exit)) r ⌝ }
+    requires { ⌜ LogRoom (now log) (now ends) × (m < 8)
+        × (length (boxBytes (queueOf (now log) (now ends) m)) ≤ length (now buf)) ⌝ }
+    ensures { λ r. ⌜ Wrote (now (buf .entry)) (boxBytes (queueOf (now (log .entry)) (now (ends .entry)) m)) (now (buf .exit)) r ⌝ }
 {
-    let sends = waiting(heads, tails, 2 * m);
-    let size = sends + waiting(heads, tails, 2 * m + 1);
+    let sends = waiting(ends, 2 * m);
+    let size = sends + waiting(ends, 2 * m + 1);
     let at = two((size % 256) as u8, (size / 256 % 256) as u8, buf);
-    let next = at + port_part(log, heads, tails, 2 * m, &mut buf[at..]);
-    next + port_part(log, heads, tails, 2 * m + 1, &mut buf[next..])
+    let next = at + port_part(log, ends, 2 * m, &mut buf[at..]);
+    next + port_part(log, ends, 2 * m + 1, &mut buf[next..])
 }
 
 // The mailboxes.
 fn boxes_part(
     log: &[u8; 4096],
-    heads: &[usize; 16],
-    tails: &[usize; 16],
+    ends: &[usize; 32],
     count: usize,
     buf: &mut [u8],
 ) -> usize
-    requires { ⌜ LogRoom (now log) (now heads) (now tails) × (count ≤ 8)
-        × (length (boxesBytes (now log) (now heads) (now tails) count) ≤ length (now buf)) ⌝ }
-    ensures { λ r. ⌜ Wrote (now (buf .entry)) (boxesBytes (now (log .entry)) (now (heads .entry)) (now (tails .entry)) count) (now (buf .exit)) r ⌝ }
+    requires { ⌜ LogRoom (now log) (now ends) × (count ≤ 8)
+        × (length (boxesBytes (now log) (now ends) count) ≤ length (now buf)) ⌝ }
+    ensures { λ r. ⌜ Wrote (now (buf .entry)) (boxesBytes (now (log .entry)) (now (ends .entry)) count) (now (buf .exit)) r ⌝ }
 {
     let mut at = 0;
     let mut m = 0;
     while m < count {
-        at += box_part(log, heads, tails, m, &mut buf[at..]);
+        at += box_part(log, ends, m, &mut buf[at..]);
         m += 1;
     }
     at
 }
 
-// So many bytes of a mutex's queue from a place on.
-fn queue(entries: &[u8; 64], from: usize, count: usize, buf: &mut [u8]) -> usize
-    requires { ⌜ (length (now entries) ≡ 64) × (from + count ≤ 64) × (count ≤ length (now buf)) ⌝ }
-    ensures { λ r. ⌜ Wrote (now (buf .entry)) (take count (drop from (now (entries .entry)))) (now (buf .exit)) r ⌝ }
+// So many bytes of the queues from a place on.
+fn queue(queues: &[u8; 72], from: usize, count: usize, buf: &mut [u8]) -> usize
+    requires { ⌜ (length (now queues) ≡ 72) × (from + count ≤ 72) × (count ≤ length (now buf)) ⌝ }
+    ensures { λ r. ⌜ Wrote (now (buf .entry)) (take count (drop from (now (queues .entry)))) (now (buf .exit)) r ⌝ }
 {
     let mut i = 0;
     while i < count {
-        buf[i] = entries[from + i];
+        buf[i] = queues[from + i];
         i += 1;
     }
     i
 }
 
-// A mutex's queue: its length and its actors.
-fn mutex_part(entries: &[u8; 64], m: usize, count: usize, buf: &mut [u8]) -> usize
-    requires { ⌜ (length (now entries) ≡ 64) × (m < 8) × (count ≤ 8) × (length (mutexBytes (take count (drop (8 * m) (now entries)))) ≤ length (now buf)) ⌝ }
-    ensures { λ r. ⌜ Wrote (now (buf .entry)) (mutexBytes (take count (drop (8 * m) (now (entries .entry))))) (now (buf .exit)) r ⌝ }
+// A mutex's queue, as it stands: its length and its actors.
+fn mutex_part(queues: &[u8; 72], m: usize, buf: &mut [u8]) -> usize
+    requires { ⌜ QueueRoom (now queues) × (m < 8) × (length (mutexBytes (queuesOf (now queues) m)) ≤ length (now buf)) ⌝ }
+    ensures { λ r. ⌜ Wrote (now (buf .entry)) (mutexBytes (queuesOf (now (queues .entry)) m)) (now (buf .exit)) r ⌝ }
 {
-    buf[0] = count as u8;
-    1 + queue(entries, 8 * m, count, &mut buf[1..])
+    let from = 9 * m;
+    let size = bytes::wide(queues[from]);
+    queue(queues, from, size + 1, buf)
 }
 
 // The mutexes.
-fn mutexes_part(entries: &[u8; 64], lens: &[usize; 8], count: usize, buf: &mut [u8]) -> usize
-    requires { ⌜ QueueRoom (now entries) (now lens) × (count ≤ 8) × (length (mutexesBytes (now entries) (now lens) count) ≤ length (now buf)) ⌝ }
-    ensures { λ r. ⌜ Wrote (now (buf .entry)) (mutexesBytes (now (entries .entry)) (now (lens .entry)) count) (now (buf .exit)) r ⌝ }
+fn mutexes_part(queues: &[u8; 72], count: usize, buf: &mut [u8]) -> usize
+    requires { ⌜ QueueRoom (now queues) × (count ≤ 8) × (length (mutexesBytes (now queues) count) ≤ length (now buf)) ⌝ }
+    ensures { λ r. ⌜ Wrote (now (buf .entry)) (mutexesBytes (now (queues .entry)) count) (now (buf .exit)) r ⌝ }
 {
     let mut at = 0;
     let mut m = 0;
     while m < count {
-        let len = lens[m];
-        at += mutex_part(entries, m, len, &mut buf[at..]);
+        at += mutex_part(queues, m, &mut buf[at..]);
         m += 1;
     }
     at
@@ -268,22 +266,20 @@ pub fn write(
     actors: [Actor; 8],
     comms: &[u64; 256],
     log: &[u8; 4096],
-    heads: &[usize; 16],
-    tails: &[usize; 16],
-    entries: &[u8; 64],
-    lens: &[usize; 8],
+    ends: &[usize; 32],
+    queues: &[u8; 72],
     buf: &mut [u8],
 ) -> usize
-    requires { ⌜ Reportable (now table) actors (now comms) (now log) (now heads) (now tails) (now entries) (now lens) (now buf) ⌝ }
+    requires { ⌜ Reportable (now table) actors (now comms) (now log) (now ends) (now queues) (now buf) ⌝ }
     ensures { λ r. ⌜ Wrote (now (buf .entry))
-        (report (now (table .entry)) (siteOf actors (now (comms .entry)) (now (log .entry)) (now (heads .entry)) (now (tails .entry)) (now (entries .entry)) (now (lens .entry))))
+        (report (now (table .entry)) (siteOf actors (now (comms .entry)) (now (log .entry)) (now (ends .entry)) (now (queues .entry))))
         (now (buf .exit)) r ⌝ }
 {
     let n = access::actors(table);
     let actions = actors_part(actors, n, buf);
     let boxes = actions + actions_part(table, comms, n, &mut buf[actions..]);
     let m = access::mailboxes(table);
-    let mutexes = boxes + boxes_part(log, heads, tails, m, &mut buf[boxes..]);
+    let mutexes = boxes + boxes_part(log, ends, m, &mut buf[boxes..]);
     let x = access::mutexes(table);
-    mutexes + mutexes_part(entries, lens, x, &mut buf[mutexes..])
+    mutexes + mutexes_part(queues, x, &mut buf[mutexes..])
 }

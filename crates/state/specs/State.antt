@@ -30,19 +30,29 @@ sideNumber receives = 1
 abbrev pub portNumber : Port → ℕ
 portNumber p = 2 * p .mailbox + sideNumber (p .side)
 
--- each port has a log of 256 names, to which it only appends; those from `head` to `tail` are pending
-abbrev pub pendingIn : (log heads tails : List ℕ) → ℕ → List ℕ
-pendingIn log heads tails n = take (getD tails n 0 - getD heads n 0) (drop (256 * n + getD heads n 0) log)
+-- each port has a log of 256 names, to which it only appends; those from its head to its tail are pending. The ends stand side by side: port n's
+-- head at 2 · n, and its tail one further
+abbrev pub headIn : (ends : List ℕ) → ℕ → ℕ
+headIn ends n = getD ends (2 * n) 0
 
-abbrev pub waitingOf : (log heads tails : List ℕ) → Port → List Name
-waitingOf log heads tails p = map nameOf (pendingIn log heads tails (portNumber p))
+abbrev pub tailIn : (ends : List ℕ) → ℕ → ℕ
+tailIn ends n = getD ends (2 * n + 1) 0
 
-abbrev pub mailOf : (comms log heads tails : List ℕ) → Mail
-mailOf comms log heads tails = record { comm = commsOf comms; waiting = waitingOf log heads tails }
+abbrev pub pendingIn : (log ends : List ℕ) → ℕ → List ℕ
+pendingIn log ends n = take (tailIn ends n - headIn ends n) (drop (256 * n + headIn ends n) log)
 
--- a mutex's queue: the first `lens` of its eight entries
-abbrev pub queuesOf : (entries lens : List ℕ) → ℕ → List ℕ
-queuesOf entries lens m = take (getD lens m 0) (drop (8 * m) entries)
+abbrev pub waitingOf : (log ends : List ℕ) → Port → List Name
+waitingOf log ends p = map nameOf (pendingIn log ends (portNumber p))
+
+abbrev pub mailOf : (comms log ends : List ℕ) → Mail
+mailOf comms log ends = record { comm = commsOf comms; waiting = waitingOf log ends }
+
+-- a mutex has nine bytes: its queue's length, then the actors in it
+abbrev pub sizeIn : (queues : List ℕ) → ℕ → ℕ
+sizeIn queues m = getD queues (9 * m) 0
+
+abbrev pub queuesOf : (queues : List ℕ) → ℕ → List ℕ
+queuesOf queues m = take (sizeIn queues m) (drop (9 * m + 1) queues)
 
 -- the actors' records
 abbrev pub freshActor : Actor
@@ -54,25 +64,30 @@ recordOf r = record { position = r .position; cells = r .cells }
 abbrev pub recordsOf : List Actor → ℕ → Record
 recordsOf actors a = recordOf (getD actors a freshActor)
 
-abbrev pub siteOf : List Actor → (comms log heads tails entries lens : List ℕ) → Site
-siteOf actors comms log heads tails entries lens =
-    record { actor = recordsOf actors; mail = mailOf comms log heads tails; queue = queuesOf entries lens }
+abbrev pub siteOf : List Actor → (comms log ends queues : List ℕ) → Site
+siteOf actors comms log ends queues =
+    record { actor = recordsOf actors; mail = mailOf comms log ends; queue = queuesOf queues }
 
--- the mail's arrays have their lengths, no port's log runs over, and each value fits 32 bits
-pub record MailRoom (comms log heads tails : List ℕ) : Type 0 where
-  pub comms-long : length comms ≡ 256
-  pub log-long : length log ≡ 4096
-  pub heads-long : length heads ≡ 16
-  pub tails-long : length tails ≡ 16
-  pub ordered : (n : ℕ) → getD heads n 0 ≤ getD tails n 0
-  pub bounded : (n : ℕ) → getD tails n 0 ≤ 256
+-- the communications have their array's length, and each value fits 32 bits
+pub record CommsRoom (comms : List ℕ) : Type 0 where
+  pub long : length comms ≡ 256
   pub valued : (j : ℕ) → getD comms j 0 < 2 ^ 42
 
--- the queues' arrays have their lengths, and no queue is longer than eight
-pub record QueueRoom (entries lens : List ℕ) : Type 0 where
-  pub entries-long : length entries ≡ 64
-  pub lens-long : length lens ≡ 8
-  pub bounded : (m : ℕ) → getD lens m 0 ≤ 8
+-- the ports' logs have their arrays' lengths, and none runs over
+pub record LogRoom (log ends : List ℕ) : Type 0 where
+  pub log-long : length log ≡ 4096
+  pub ends-long : length ends ≡ 32
+  pub ordered : (n : ℕ) → headIn ends n ≤ tailIn ends n
+  pub bounded : (n : ℕ) → tailIn ends n ≤ 256
+
+pub record MailRoom (comms log ends : List ℕ) : Type 0 where
+  pub comms-room : CommsRoom comms
+  pub log-room : LogRoom log ends
+
+-- the queues' array has its length, and no queue is longer than eight
+pub record QueueRoom (queues : List ℕ) : Type 0 where
+  pub long : length queues ≡ 72
+  pub bounded : (m : ℕ) → sizeIn queues m ≤ 8
 
 -- ---- one actor's part
 

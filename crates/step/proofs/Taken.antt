@@ -5,7 +5,7 @@ use mathlib.Core.Bool.{Bool, true, false}
 use mathlib.Core.List.{List}
 use Prim.Native.Nat.{ℕ, _+_, _*_, _<_, _≤_}
 use native.Mathlib.Omega.{arith}
-use lib.ListN.{length, getD, set, length-set}
+use lib.ListN.{length, set, length-set}
 use Rattle.table.specs.declared.Action.{Action}
 use Rattle.table.specs.declared.Action.the-variants.{Set, Add, Lesser, Send, Receive, TestAny, WaitAny, Lock, Unlock, MutexTest, MutexWait}
 use Rattle.table.specs.declared.Numbers.{Numbers}
@@ -20,7 +20,7 @@ use Rattle.model.specs.Mutex.{queueing}
 use Rattle.model.specs.Local.{Seen, unseen, seen, first, see, pickUpSeen, cellsAfter}
 use Rattle.model.specs.Step.{passes}
 use Rattle.names.specs.InByte.{nameOf}
-use Rattle.state.specs.State.{recordOf, mailOf, queuesOf, MailRoom, QueueRoom, nextOf, seenFrom}
+use Rattle.state.specs.State.{recordOf, tailIn, mailOf, queuesOf, MailRoom, QueueRoom, nextOf, seenFrom}
 use Rattle.step.specs.StepParts.{Steppable, Took, StepTaken, Picks, SmallPlace}
 use Rattle.state.specs.declared.Actor.{Actor}
 use Rattle.step.specs.declared.Stepped.{Stepped}
@@ -58,8 +58,8 @@ pick-length own (seen place n v) cells = go (own n)
     go (MutexTest result list) = refl
     go (MutexWait result list) = refl
 
-module _ {table : List ℕ} {a : ℕ} {r : Actor} {comms log heads tails entries lens : List ℕ}
-    (S : Steppable table a r comms log heads tails entries lens) where
+module _ {table : List ℕ} {a : ℕ} {r : Actor} {comms log ends queues : List ℕ}
+    (S : Steppable table a r comms log ends queues) where
   pub ranged : (x : Action) → nextOf table a r ≡ x → InRange table a (r .position) x
   ranged x e = subst (InRange table a (r .position)) e (S .accepted .in-range a (r .position) (S .actor) (S .unfinished))
 
@@ -80,17 +80,17 @@ module _ {table : List ℕ} {a : ℕ} {r : Actor} {comms log heads tails entries
 
   -- a step that posts nothing leaves the arrays as they are
   pub quiet : (x : Action) (s : Stepped) → posts x ≡ silent
-      → s .ready ≡ passes table (seenFrom r (mailOf comms log heads tails) (queuesOf entries lens)) a x
+      → s .ready ≡ passes table (seenFrom r (mailOf comms log ends) (queuesOf queues)) a x
       → s .actor .position ≡ r .position + 1
-      → s .actor .cells ≡ cellsAfter (actionOf table a) x (see (seenFrom r (mailOf comms log heads tails) (queuesOf entries lens)) a (looks x)) (r .cells)
-      → StepTaken table a x r comms log heads tails entries lens comms log heads tails entries lens s
+      → s .actor .cells ≡ cellsAfter (actionOf table a) x (see (seenFrom r (mailOf comms log ends) (queuesOf queues)) a (looks x)) (r .cells)
+      → StepTaken table a x r comms log ends queues comms log ends queues s
   quiet x s none ready position cells =
       record {
         ready-right = ready;
         took = record {
-          record-next = record-after (actionOf table a) x (see (seenFrom r (mailOf comms log heads tails) (queuesOf entries lens)) a (looks x)) r (s .actor) position cells;
-          mail-next = sym (ap (λ (p : Post). mailing p (name a (r .position)) (sent x (r .cells)) (mailOf comms log heads tails)) none);
-          queue-next = sym (ap (λ (p : Post). queueing p a (queuesOf entries lens)) none);
+          record-next = record-after (actionOf table a) x (see (seenFrom r (mailOf comms log ends) (queuesOf queues)) a (looks x)) r (s .actor) position cells;
+          mail-next = sym (ap (λ (p : Post). mailing p (name a (r .position)) (sent x (r .cells)) (mailOf comms log ends)) none);
+          queue-next = sym (ap (λ (p : Post). queueing p a (queuesOf queues)) none);
         };
         mail-room = S .mail-room;
         queue-room = S .queue-room;
@@ -102,20 +102,20 @@ module _ {table : List ℕ} {a : ℕ} {r : Actor} {comms log heads tails entries
   meets-as port v mail = ap (λ (x : Name). meet port x v mail) (name-byte a (r .position) position-small)
 
   -- a step that posts to a mailbox changes the mail alone
-  pub posted : (x : Action) (s : Stepped) (port : Port) {comms′ log′ heads′ tails′ : List ℕ} (v : ℕ) → posts x ≡ mails port → sent x (r .cells) ≡ v
-      → s .ready ≡ passes table (seenFrom r (mailOf comms log heads tails) (queuesOf entries lens)) a x
-      → mailOf comms′ log′ heads′ tails′ ≡ meet port (name a (r .position)) v (mailOf comms log heads tails)
-      → MailRoom comms′ log′ heads′ tails′ → ((n : ℕ) → getD tails′ n 0 ≤ getD tails n 0 + 1)
+  pub posted : (x : Action) (s : Stepped) (port : Port) {comms′ log′ ends′ : List ℕ} (v : ℕ) → posts x ≡ mails port → sent x (r .cells) ≡ v
+      → s .ready ≡ passes table (seenFrom r (mailOf comms log ends) (queuesOf queues)) a x
+      → mailOf comms′ log′ ends′ ≡ meet port (name a (r .position)) v (mailOf comms log ends)
+      → MailRoom comms′ log′ ends′ → ((n : ℕ) → tailIn ends′ n ≤ tailIn ends n + 1)
       → s .actor .position ≡ r .position + 1
-      → s .actor .cells ≡ cellsAfter (actionOf table a) x (see (seenFrom r (mailOf comms log heads tails) (queuesOf entries lens)) a (looks x)) (r .cells)
-      → StepTaken table a x r comms log heads tails entries lens comms′ log′ heads′ tails′ entries lens s
-  posted x s port {comms′} {log′} {heads′} {tails′} v mailed carries ready mail room grown position cells =
+      → s .actor .cells ≡ cellsAfter (actionOf table a) x (see (seenFrom r (mailOf comms log ends) (queuesOf queues)) a (looks x)) (r .cells)
+      → StepTaken table a x r comms log ends queues comms′ log′ ends′ queues s
+  posted x s port {comms′} {log′} {ends′} v mailed carries ready mail room grown position cells =
       record {
         ready-right = ready;
         took = record {
-          record-next = record-after (actionOf table a) x (see (seenFrom r (mailOf comms log heads tails) (queuesOf entries lens)) a (looks x)) r (s .actor) position cells;
-          mail-next = mail ∙ sym (ap₂ (λ (p : Post) (w : ℕ). mailing p (name a (r .position)) w (mailOf comms log heads tails)) mailed carries);
-          queue-next = sym (ap (λ (p : Post). queueing p a (queuesOf entries lens)) mailed);
+          record-next = record-after (actionOf table a) x (see (seenFrom r (mailOf comms log ends) (queuesOf queues)) a (looks x)) r (s .actor) position cells;
+          mail-next = mail ∙ sym (ap₂ (λ (p : Post) (w : ℕ). mailing p (name a (r .position)) w (mailOf comms log ends)) mailed carries);
+          queue-next = sym (ap (λ (p : Post). queueing p a (queuesOf queues)) mailed);
         };
         mail-room = room;
         queue-room = S .queue-room;
@@ -123,24 +123,24 @@ module _ {table : List ℕ} {a : ℕ} {r : Actor} {comms log heads tails entries
       }
 
   -- a step that joins or leaves a mutex's queue changes the queues alone
-  pub queued : (x : Action) (s : Stepped) (p : Post) {entries′ lens′ : List ℕ} → posts x ≡ p
-      → s .ready ≡ passes table (seenFrom r (mailOf comms log heads tails) (queuesOf entries lens)) a x
+  pub queued : (x : Action) (s : Stepped) (p : Post) {queues′ : List ℕ} → posts x ≡ p
+      → s .ready ≡ passes table (seenFrom r (mailOf comms log ends) (queuesOf queues)) a x
       → ((me : Name) (v : ℕ) (mail : Mail) → mailing p me v mail ≡ mail)
-      → queuesOf entries′ lens′ ≡ queueing p a (queuesOf entries lens)
-      → QueueRoom entries′ lens′
+      → queuesOf queues′ ≡ queueing p a (queuesOf queues)
+      → QueueRoom queues′
       → s .actor .position ≡ r .position + 1
-      → s .actor .cells ≡ cellsAfter (actionOf table a) x (see (seenFrom r (mailOf comms log heads tails) (queuesOf entries lens)) a (looks x)) (r .cells)
-      → StepTaken table a x r comms log heads tails entries lens comms log heads tails entries′ lens′ s
-  queued x s p {entries′} {lens′} post ready unmailed queues room position cells =
+      → s .actor .cells ≡ cellsAfter (actionOf table a) x (see (seenFrom r (mailOf comms log ends) (queuesOf queues)) a (looks x)) (r .cells)
+      → StepTaken table a x r comms log ends queues comms log ends queues′ s
+  queued x s p {queues′} post ready unmailed changed room position cells =
       record {
         ready-right = ready;
         took = record {
-          record-next = record-after (actionOf table a) x (see (seenFrom r (mailOf comms log heads tails) (queuesOf entries lens)) a (looks x)) r (s .actor) position cells;
+          record-next = record-after (actionOf table a) x (see (seenFrom r (mailOf comms log ends) (queuesOf queues)) a (looks x)) r (s .actor) position cells;
           mail-next =
               sym
-              (ap (λ (q : Post). mailing q (name a (r .position)) (sent x (r .cells)) (mailOf comms log heads tails)) post
-              ∙ unmailed (name a (r .position)) (sent x (r .cells)) (mailOf comms log heads tails));
-          queue-next = queues ∙ sym (ap (λ (q : Post). queueing q a (queuesOf entries lens)) post);
+              (ap (λ (q : Post). mailing q (name a (r .position)) (sent x (r .cells)) (mailOf comms log ends)) post
+              ∙ unmailed (name a (r .position)) (sent x (r .cells)) (mailOf comms log ends));
+          queue-next = changed ∙ sym (ap (λ (q : Post). queueing q a (queuesOf queues)) post);
         };
         mail-room = S .mail-room;
         queue-room = room;
@@ -148,9 +148,9 @@ module _ {table : List ℕ} {a : ℕ} {r : Actor} {comms log heads tails entries
       }
 
 -- a step of the action x is a step of the next action, which x is
-pub of-next : {table : List ℕ} {a : ℕ} {r : Actor} {comms log heads tails entries lens comms′ log′ heads′ tails′ entries′ lens′ : List ℕ} {s : Stepped}
+pub of-next : {table : List ℕ} {a : ℕ} {r : Actor} {comms log ends queues comms′ log′ ends′ queues′ : List ℕ} {s : Stepped}
     (x : Action) → nextOf table a r ≡ x
-    → StepTaken table a x r comms log heads tails entries lens comms′ log′ heads′ tails′ entries′ lens′ s
-    → StepTaken table a (nextOf table a r) r comms log heads tails entries lens comms′ log′ heads′ tails′ entries′ lens′ s
-of-next {table} {a} {r} {comms} {log} {heads} {tails} {entries} {lens} {comms′} {log′} {heads′} {tails′} {entries′} {lens′} {s} x e t =
-    subst (λ (y : Action). StepTaken table a y r comms log heads tails entries lens comms′ log′ heads′ tails′ entries′ lens′ s) (sym e) t
+    → StepTaken table a x r comms log ends queues comms′ log′ ends′ queues′ s
+    → StepTaken table a (nextOf table a r) r comms log ends queues comms′ log′ ends′ queues′ s
+of-next {table} {a} {r} {comms} {log} {ends} {queues} {comms′} {log′} {ends′} {queues′} {s} x e t =
+    subst (λ (y : Action). StepTaken table a y r comms log ends queues comms′ log′ ends′ queues′ s) (sym e) t

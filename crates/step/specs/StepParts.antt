@@ -4,7 +4,7 @@ use Prim.Native.Nat.{ℕ, _+_, _<_, _≤_, _^_}
 use mathlib.Core.Path.{_≡_}
 use mathlib.Core.Bool.{Bool, true, false}
 use mathlib.Core.List.{List}
-use lib.ListN.{length, getD}
+use lib.ListN.{length}
 use Rattle.table.specs.declared.Action.{Action}
 use Rattle.table.specs.Format.{actorsOf, countOf}
 use Rattle.table.specs.Decode.{actionOf}
@@ -15,21 +15,21 @@ use Rattle.model.specs.Mutex.{queueing, join}
 use Rattle.model.specs.Mail.{mailing}
 use Rattle.model.specs.Local as Local
 use Rattle.model.specs.Step.{passes}
-use Rattle.state.specs.State.{recordOf, mailOf, queuesOf, MailRoom, QueueRoom, EightCells, seenFrom, nextOf}
+use Rattle.state.specs.State.{recordOf, tailIn, mailOf, queuesOf, MailRoom, QueueRoom, EightCells, seenFrom, nextOf}
 use Rattle.state.specs.declared.Actor.{Actor}
 use Rattle.step.specs.declared.Stepped.{Stepped}
 
 -- what a step may rely on
-pub record Steppable (table : List ℕ) (a : ℕ) (r : Actor) (comms log heads tails entries lens : List ℕ) : Type 0 where
+pub record Steppable (table : List ℕ) (a : ℕ) (r : Actor) (comms log ends queues : List ℕ) : Type 0 where
   pub accepted : WellFormed table
   pub actor : a < actorsOf table
   pub unfinished : r .position < countOf table a
   pub eight : EightCells r
-  pub mail-room : MailRoom comms log heads tails
-  pub queue-room : QueueRoom entries lens
+  pub mail-room : MailRoom comms log ends
+  pub queue-room : QueueRoom queues
   -- a step that need not wait has room to post
-  pub tail-room : waits (nextOf table a r) ≡ false → (n : ℕ) → getD tails n 0 < 256
-  pub join-room : (m : ℕ) → length (join (queuesOf entries lens m) a) ≤ 8
+  pub tail-room : waits (nextOf table a r) ≡ false → (n : ℕ) → tailIn ends n < 256
+  pub join-room : (m : ℕ) → length (join (queuesOf queues m) a) ≤ 8
 
 -- a number that a look found is that of an action
 abbrev pub Picks : List ℕ → ℕ → Local.Seen → Type 0
@@ -48,9 +48,9 @@ pub record Took (table : List ℕ) (a : ℕ) (x : Action) (r : Actor) (mail : Ma
   pub queue-next : queue′ ≡ queueing (posts x) a queue
 
 -- what a step of the action x leaves: whether it was ready; its record, the mail and the queues; and room for the next step
-pub record StepTaken (table : List ℕ) (a : ℕ) (x : Action) (r : Actor) (comms log heads tails entries lens comms′ log′ heads′ tails′ entries′ lens′ : List ℕ) (s : Stepped) : Type 0 where
-  pub ready-right : s .ready ≡ passes table (seenFrom r (mailOf comms log heads tails) (queuesOf entries lens)) a x
-  pub took : Took table a x r (mailOf comms log heads tails) (queuesOf entries lens) (mailOf comms′ log′ heads′ tails′) (queuesOf entries′ lens′) (s .actor)
-  pub mail-room : MailRoom comms′ log′ heads′ tails′
-  pub queue-room : QueueRoom entries′ lens′
-  pub grown : (n : ℕ) → getD tails′ n 0 ≤ getD tails n 0 + 1
+pub record StepTaken (table : List ℕ) (a : ℕ) (x : Action) (r : Actor) (comms log ends queues comms′ log′ ends′ queues′ : List ℕ) (s : Stepped) : Type 0 where
+  pub ready-right : s .ready ≡ passes table (seenFrom r (mailOf comms log ends) (queuesOf queues)) a x
+  pub took : Took table a x r (mailOf comms log ends) (queuesOf queues) (mailOf comms′ log′ ends′) (queuesOf queues′) (s .actor)
+  pub mail-room : MailRoom comms′ log′ ends′
+  pub queue-room : QueueRoom queues′
+  pub grown : (n : ℕ) → tailIn ends′ n ≤ tailIn ends n + 1

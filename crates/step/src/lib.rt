@@ -25,15 +25,13 @@ pub fn step(
     r: Actor,
     comms: &mut [u64; 256],
     log: &mut [u8; 4096],
-    heads: &mut [usize; 16],
-    tails: &mut [usize; 16],
-    entries: &mut [u8; 64],
-    lens: &mut [usize; 8],
+    ends: &mut [usize; 32],
+    queues: &mut [u8; 72],
 ) -> Stepped
-    requires { ⌜ Steppable (now table) a r (now comms) (now log) (now heads) (now tails) (now entries) (now lens) ⌝ }
+    requires { ⌜ Steppable (now table) a r (now comms) (now log) (now ends) (now queues) ⌝ }
     ensures { λ s. ⌜ StepTaken (now (table .entry)) a (nextOf (now (table .entry)) a r) r
-        (now (comms .entry)) (now (log .entry)) (now (heads .entry)) (now (tails .entry)) (now (entries .entry)) (now (lens .entry))
-        (now (comms .exit)) (now (log .exit)) (now (heads .exit)) (now (tails .exit)) (now (entries .exit)) (now (lens .exit)) s ⌝ }
+        (now (comms .entry)) (now (log .entry)) (now (ends .entry)) (now (queues .entry))
+        (now (comms .exit)) (now (log .exit)) (now (ends .exit)) (now (queues .exit)) s ⌝ }
 {
     let k = r.position;
     let x = table::within::action(table, a, k);
@@ -52,14 +50,14 @@ pub fn step(
         },
         Action::Send { mailbox, cell } => {
             let value = r.cells[cell];
-            mail::send(comms, log, heads, tails, 32 * a + k, mailbox, value);
+            mail::send(comms, log, ends, 32 * a + k, mailbox, value);
             Stepped {
                 ready: true,
                 actor: r.next(),
             }
         }
         Action::Receive { mailbox, cell: _ } => {
-            mail::receive(comms, log, heads, tails, 32 * a + k, mailbox);
+            mail::receive(comms, log, ends, 32 * a + k, mailbox);
             Stepped {
                 ready: true,
                 actor: r.next(),
@@ -80,28 +78,28 @@ pub fn step(
             }
         }
         Action::Lock { mutex } => {
-            mutex::join(entries, lens, mutex, a);
+            mutex::join(queues, mutex, a);
             Stepped {
                 ready: true,
                 actor: r.next(),
             }
         }
         Action::Unlock { mutex } => {
-            mutex::leave(entries, lens, mutex, a);
+            mutex::leave(queues, mutex, a);
             Stepped {
                 ready: true,
                 actor: r.next(),
             }
         }
         Action::MutexTest { result, list } => {
-            let seen = look::mutexes(entries, lens, a, list);
+            let seen = look::mutexes(queues, a, list);
             Stepped {
                 ready: true,
                 actor: told(r, result, seen),
             }
         }
         Action::MutexWait { result, list } => {
-            let seen = look::mutexes(entries, lens, a, list);
+            let seen = look::mutexes(queues, a, list);
             Stepped {
                 ready: look::is_seen(seen),
                 actor: told(r, result, seen),

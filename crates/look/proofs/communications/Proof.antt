@@ -9,7 +9,7 @@ use Rattle.look.proofs.communications.Tie as tie
 communication-requires : tie.Need-communication-requires
 communication-requires c κs =
     let p = c .pre in
-    (p .0, p .1, p .2, p .3 0)
+    (p .0, p .1, p .2 0)
 
 enum-told : tie.Need-enum-told
 enum-told c = search needs
@@ -28,7 +28,7 @@ returns c =
 communication-requires-2 : tie.Need-communication-requires-2
 communication-requires-2 c κs =
     let p = c .before .before .before .pre in
-    (p .0, p .1, p .2, p .3 1)
+    (p .0, p .1, p .2 1)
 
 enum-told-3 : tie.Need-enum-told-3
 enum-told-3 c = search needs
@@ -49,7 +49,7 @@ returns-2 c =
 communication-requires-3 : tie.Need-communication-requires-3
 communication-requires-3 c κs =
     let p = c .before .before .before .before .before .before .pre in
-    (p .0, p .1, p .2, p .3 2)
+    (p .0, p .1, p .2 2)
 
 enum-told-5 : tie.Need-enum-told-5
 enum-told-5 c = search needs
@@ -73,7 +73,7 @@ returns-3 c =
 communication-requires-4 : tie.Need-communication-requires-4
 communication-requires-4 c κs =
     let p = c .before .before .before .before .before .before .before .before .before .pre in
-    (p .0, p .1, p .2, p .3 3)
+    (p .0, p .1, p .2 3)
 
 returns-4 : tie.Need-returns-4
 returns-4 c =

@@ -21,7 +21,7 @@ returns : tie.Need-returns
 returns c =
     let x = c .before .before .before .args in
     let l = x .list in
-    first-answers (ownedIn (x .entries .now) (x .lens .now) (x .a)) (λ m. 0) (l .count) (l .n0) (l .n1) (l .n2) (l .n3)
+    first-answers (ownedIn (x .queues .now) (x .a)) (λ m. 0) (l .count) (l .n0) (l .n1) (l .n2) (l .n3)
     (c .before .before .owned .result) (c .before .before .owned .ensures)
     (c .before .match .keys2)
 
@@ -40,7 +40,7 @@ returns-2 : tie.Need-returns-2
 returns-2 c =
     let x = c .before .before .before .before .before .before .args in
     let l = x .list in
-    second-answers (ownedIn (x .entries .now) (x .lens .now) (x .a)) (λ m. 0) (l .count) (l .n0) (l .n1) (l .n2) (l .n3)
+    second-answers (ownedIn (x .queues .now) (x .a)) (λ m. 0) (l .count) (l .n0) (l .n1) (l .n2) (l .n3)
     (c .before .before .before .before .before .owned .result) (c .before .before .before .before .before .owned .ensures)
     (c .before .before .before .before .match .keys1)
     (c .before .before .owned2 .result) (c .before .before .owned2 .ensures)
@@ -61,7 +61,7 @@ returns-3 : tie.Need-returns-3
 returns-3 c =
     let x = c .before .before .before .before .before .before .before .before .before .args in
     let l = x .list in
-    third-answers (ownedIn (x .entries .now) (x .lens .now) (x .a)) (λ m. 0) (l .count) (l .n0) (l .n1) (l .n2) (l .n3)
+    third-answers (ownedIn (x .queues .now) (x .a)) (λ m. 0) (l .count) (l .n0) (l .n1) (l .n2) (l .n3)
     (c .before .before .before .before .before .before .before .before .owned .result)
     (c .before .before .before .before .before .before .before .before .owned .ensures)
     (c .before .before .before .before .before .before .before .match .keys1)
@@ -79,7 +79,7 @@ returns-4 : tie.Need-returns-4
 returns-4 c =
     let x = c .before .before .before .before .before .before .before .before .before .before .args in
     let l = x .list in
-    fourth-answers (ownedIn (x .entries .now) (x .lens .now) (x .a)) (λ m. 0) (l .count) (l .n0) (l .n1) (l .n2) (l .n3)
+    fourth-answers (ownedIn (x .queues .now) (x .a)) (λ m. 0) (l .count) (l .n0) (l .n1) (l .n2) (l .n3)
     (c .before .before .before .before .before .before .before .before .before .owned .result)
     (c .before .before .before .before .before .before .before .before .before .owned .ensures)
     (c .before .before .before .before .before .before .before .before .match .keys1)

@@ -18,11 +18,20 @@ add-theirs c = search needs
 mul-if1 : tie.Need-mul-if1
 mul-if1 c = search needs
 
+mul-if1-2 : tie.Need-mul-if1-2
+mul-if1-2 c = search needs
+
 element-copy-out-if1 : tie.Need-element-copy-out-if1
 element-copy-out-if1 c = search needs
 
-mul-if1-2 : tie.Need-mul-if1-2
-mul-if1-2 c = search needs
+mul-if1-3 : tie.Need-mul-if1-3
+mul-if1-3 c = search needs
+
+add-if1 : tie.Need-add-if1
+add-if1 c = search needs
+
+mul-if1-4 : tie.Need-mul-if1-4
+mul-if1-4 c = search needs
 
 element-copy-out-if1-2 : tie.Need-element-copy-out-if1-2
 element-copy-out-if1-2 c = search needs
@@ -30,7 +39,7 @@ element-copy-out-if1-2 c = search needs
 take-oldest-requires : tie.Need-take-oldest-requires
 take-oldest-requires c κs =
     let e = c .before .before .before .before .before in
-    omega (arith, e .pre .0 .bounded (2 * e .args .m + 1))
+    omega (arith, e .pre .0 .log-room .bounded (2 * e .args .m + 1))
 
 settle-requires : tie.Need-settle-requires
 settle-requires c κs = search needs
@@ -39,7 +48,7 @@ returns : tie.Need-returns
 returns c =
     let e = c .before .before .before .before .before .before .before .before in
     let t = c .before .before .take-oldest in
-    pair-posted _ _ _ _ (e .pre .0) (e .args .me) (e .args .value) (e .pre .1) (sendsAt (e .args .m)) (2 * e .args .m + 1) (omega arith) (omega arith)
+    pair-posted _ _ _ (e .pre .0) (e .args .me) (e .args .value) (e .pre .1) (sendsAt (e .args .m)) (2 * e .args .m + 1) (omega arith) (omega arith)
     (c .before .before .before .before .before .if1 .taken) (t .result) (t .ensures .0) (t .ensures .1) (e .args .value) refl (e .fits .value .fits)
     (c .settle .ensures) (t .ensures .2)
 
@@ -52,7 +61,7 @@ join-requires c κs = search needs
 returns-2 : tie.Need-returns-2
 returns-2 c =
     let e = c .before .before .before .before .before .before .before in
-    join-posted _ _ _ _ (e .pre .0) (e .args .me) (e .args .value) (e .pre .1) (sendsAt (e .args .m)) (2 * e .args .m) (2 * e .args .m + 1) (omega arith)
+    join-posted _ _ _ (e .pre .0) (e .args .me) (e .args .value) (e .pre .1) (sendsAt (e .args .m)) (2 * e .args .m) (2 * e .args .m + 1) (omega arith)
     (omega arith) (omega arith) (omega arith) (e .fits .value .fits) (e .pre .3) (c .before .before .before .before .if1 .left)
     (c .join .ensures .0) (c .join .ensures .1) (c .join .ensures .2)
 
@@ -63,8 +72,11 @@ send-spec =
     mul-theirs
     add-theirs
     mul-if1
-    element-copy-out-if1
     mul-if1-2
+    element-copy-out-if1
+    mul-if1-3
+    add-if1
+    mul-if1-4
     element-copy-out-if1-2
     take-oldest-requires
     settle-requires

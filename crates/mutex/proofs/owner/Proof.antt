@@ -7,19 +7,19 @@ use Rattle.mutex.proofs.MutexOwner.{owner-none, owner-first}
 use Rattle.mutex.proofs.owner.Statement.{statement}
 use Rattle.mutex.proofs.owner.Tie as tie
 
-mul-n : tie.Need-mul-n
-mul-n c = search needs
+mul-size : tie.Need-mul-size
+mul-size c = search needs
 
-element-copy-out-n : tie.Need-element-copy-out-n
-element-copy-out-n c = search needs
+element-copy-out-if1 : tie.Need-element-copy-out-if1
+element-copy-out-if1 c = search needs
 
 returns : tie.Need-returns
 returns c =
     let x = c .before .before .args in
-    owner-none (x .entries .now) (x .lens .now) (x .m) (x .a) (c .if1 .taken)
+    owner-none (x .queues .now) (x .m) (x .a) (c .if1 .taken)
 
-mul-wide : tie.Need-mul-wide
-mul-wide c = search needs
+add-wide : tie.Need-add-wide
+add-wide c = search needs
 
 element-copy-out-wide : tie.Need-element-copy-out-wide
 element-copy-out-wide c = search needs
@@ -32,16 +32,16 @@ returns-2 c =
     let start = c .before .before .before .before in
     let x = start .args in
     ap (eqb (x .a)) (c .wide .ensures .0)
-    ∙ owner-first (x .entries .now) (x .lens .now) (x .m) (x .a) (start .pre .0) (start .pre .1) (c .before .before .if1 .left)
+    ∙ owner-first (x .queues .now) (x .m) (x .a) (start .pre .0) (start .pre .1) (c .before .before .if1 .left)
 
 pub owner-spec : {M : Type 1} → statement M
 owner-spec =
     tie.close
     (tie.spec
-    mul-n
-    element-copy-out-n
+    mul-size
+    element-copy-out-if1
     returns
-    mul-wide
+    add-wide
     element-copy-out-wide
     wide-requires
     returns-2)

@@ -12,13 +12,13 @@ use Rattle.mutex.proofs.queued.Statement.{statement}
 use Rattle.mutex.proofs.queued.Tie as tie
 
 abbrev Inv-loop : tie.InvT-loop
-Inv-loop entries at n actor i₀ i = (i ≤ n) × (has (rest entries at n i) actor ≡ has (take n (drop at entries)) actor)
+Inv-loop queues at n actor i₀ i = (i ≤ n) × (has (rest queues at n i) actor ≡ has (take n (drop at queues)) actor)
 
 abbrev μ-loop : tie.MeasureT-loop
-μ-loop entries at n actor i₀ i = n - i
+μ-loop queues at n actor i₀ i = n - i
 
 loop-holds : tie.Need-loop-holds Inv-loop μ-loop
-loop-holds c = (search needs, ap (λ (q : List ℕ). has q (c .args .actor)) (rest-begin (c .args .entries .now) (c .args .at) (c .args .n)))
+loop-holds c = (search needs, ap (λ (q : List ℕ). has q (c .args .actor)) (rest-begin (c .args .queues .now) (c .args .at) (c .args .n)))
 
 add-b : tie.Need-add-b Inv-loop μ-loop
 add-b c = omega arith
@@ -30,7 +30,7 @@ returns : tie.Need-returns Inv-loop μ-loop
 returns c =
     let x = c .before .before .before .before .args in
     let turn = c .before .before .before .loop in
-    sym (has-found (x .entries .now) (x .at) (x .n) (turn .i) (x .actor) (c .before .before .loop-test .taken) (omega arith) (c .if1 .taken))
+    sym (has-found (x .queues .now) (x .at) (x .n) (turn .i) (x .actor) (c .before .before .loop-test .taken) (omega arith) (c .if1 .taken))
     ∙ turn .inv .1
 
 add-i : tie.Need-add-i Inv-loop μ-loop
@@ -44,14 +44,14 @@ loop-again c =
     let x = c .before .before .before .before .args in
     let turn = c .before .before .before .loop in (
       omega arith,
-      sym (has-passed (x .entries .now) (x .at) (x .n) (turn .i) (x .actor) (c .before .before .loop-test .taken) (omega arith) (c .if1 .left))
+      sym (has-passed (x .queues .now) (x .at) (x .n) (turn .i) (x .actor) (c .before .before .loop-test .taken) (omega arith) (c .if1 .left))
           ∙ turn .inv .1,
     )
 
 returns-2 : tie.Need-returns-2 Inv-loop μ-loop
 returns-2 c =
     let x = c .before .before .args in
-    sym (sym (c .before .loop .inv .1) ∙ ap (λ (q : List ℕ). has q (x .actor)) (rest-end (x .entries .now) (x .at) (x .n) (c .before .loop .i) (c .loop-test .left)))
+    sym (sym (c .before .loop .inv .1) ∙ ap (λ (q : List ℕ). has q (x .actor)) (rest-end (x .queues .now) (x .at) (x .n) (c .before .loop .i) (c .loop-test .left)))
 
 pub queued-spec : {M : Type 1} → statement M
 queued-spec =

@@ -17,21 +17,21 @@ use Rattle.readiness.proofs.ready_mask.Statement.{statement}
 use Rattle.readiness.proofs.ready_mask.Tie as tie
 
 abbrev Inv-loop : tie.InvT-loop
-Inv-loop table n comms entries lens actors m₀ a₀ m a = (a ≤ n) × ((log heads tails : List ℕ) → m ≡ maskOf (ready table (siteWith actors comms entries lens log heads tails)) (n - a) a)
+Inv-loop table n comms queues actors m₀ a₀ m a = (a ≤ n) × ((log ends : List ℕ) → m ≡ maskOf (ready table (siteWith actors comms queues log ends)) (n - a) a)
 
 abbrev μ-loop : tie.MeasureT-loop
-μ-loop table n comms entries lens actors m₀ a₀ m a = a
+μ-loop table n comms queues actors m₀ a₀ m a = a
 
 -- before the last bit the mask is below 128
-room-left : {table : List ℕ} {actors : List Actor} {comms entries lens : List ℕ} {n m a : ℕ} → Answerable table actors comms entries lens → n ≡ actorsOf table
-    → (a ≤ n) × ((log heads tails : List ℕ) → m ≡ maskOf (ready table (siteWith actors comms entries lens log heads tails)) (n - a) a) → 0 < a → m < 128
-room-left {table} {actors} {comms} {entries} {lens} {n} {m} {a} A counted inv some =
+room-left : {table : List ℕ} {actors : List Actor} {comms queues : List ℕ} {n m a : ℕ} → Answerable table actors comms queues → n ≡ actorsOf table
+    → (a ≤ n) × ((log ends : List ℕ) → m ≡ maskOf (ready table (siteWith actors comms queues log ends)) (n - a) a) → 0 < a → m < 128
+room-left {table} {actors} {comms} {queues} {n} {m} {a} A counted inv some =
     let few : n - a ≤ 7 = omega (arith, A .accepted .actors-most) in
-    rw (inv .1 [] [] []) (mask-room (ready table (siteWith actors comms entries lens [] [] [])) (n - a) a few)
+    rw (inv .1 [] []) (mask-room (ready table (siteWith actors comms queues [] [])) (n - a) a few)
 
 loop-holds : tie.Need-loop-holds Inv-loop μ-loop
 loop-holds c =
-    (omega arith, λ log heads tails. mask-begin (ready (c .before .args .table .now) (siteWith (c .before .args .t3) (c .before .args .comms .now) (c .before .args .entries .now) (c .before .args .lens .now) log heads tails)) (c .before .args .n))
+    (omega arith, λ log ends. mask-begin (ready (c .before .args .table .now) (siteWith (c .before .args .t3) (c .before .args .comms .now) (c .before .args .queues .now) log ends)) (c .before .args .n))
 
 sub-a : tie.Need-sub-a Inv-loop μ-loop
 sub-a c = search needs
@@ -50,8 +50,7 @@ is-ready-requires c κs =
     record {
       accepted = p .accepted;
       actor = omega (arith, c .before .before .before .before .pre .0 .actors-long, c .before .before .before .before .pre .0 .accepted .actors-most, c .before .before .before .before .pre .1, c .before .loop-test .taken);
-      comms-long = p .comms-long;
-      valued = p .valued;
+      comms-room = p .comms-room;
       queue-room = p .queue-room;
     }
 
@@ -72,25 +71,25 @@ loop-less c = search needs
 loop-again : tie.Need-loop-again Inv-loop μ-loop
 loop-again c = (
   omega arith,
-  λ log heads tails.
+  λ log ends.
       ap₂ (λ (x y : ℕ). x + 2 * y)
       (c .bit .ensures .0
       ∙ ap bit
-      (c .before .is-ready .ensures log heads tails
-      ∙ ap (λ (r : Actor). looksReady (c .before .before .before .before .before .before .args .table .now) (c .before .before .before .before .loop .a - 1) r (c .before .before .before .before .before .before .args .comms .now) (c .before .before .before .before .before .before .args .entries .now) (c .before .before .before .before .before .before .args .lens .now) log heads tails)
+      (c .before .is-ready .ensures log ends
+      ∙ ap (λ (r : Actor). looksReady (c .before .before .before .before .before .before .args .table .now) (c .before .before .before .before .loop .a - 1) r (c .before .before .before .before .before .before .args .comms .now) (c .before .before .before .before .before .before .args .queues .now) log ends)
       (getD-within (c .before .before .before .before .before .before .args .t3) (c .before .before .before .before .loop .a - 1) (record { position = 0; cells = [] }) freshActor (omega (arith, c .before .before .before .before .before .before .pre .0 .actors-long, c .before .before .before .before .before .before .pre .0 .accepted .actors-most, c .before .before .before .before .before .before .pre .1, c .before .before .before .loop-test .taken)))
       ∙ sym
-      (ready-looks (c .before .before .before .before .before .before .args .table .now) (c .before .before .before .before .before .before .args .t3) (c .before .before .before .before .before .before .args .comms .now) (c .before .before .before .before .before .before .args .entries .now) (c .before .before .before .before .before .before .args .lens .now) log heads tails (c .before .before .before .before .loop .a - 1)
+      (ready-looks (c .before .before .before .before .before .before .args .table .now) (c .before .before .before .before .before .before .args .t3) (c .before .before .before .before .before .before .args .comms .now) (c .before .before .before .before .before .before .args .queues .now) log ends (c .before .before .before .before .loop .a - 1)
       (omega (arith, c .before .before .before .before .before .before .pre .0 .actors-long, c .before .before .before .before .before .before .pre .0 .accepted .actors-most, c .before .before .before .before .before .before .pre .1, c .before .before .before .loop-test .taken)))))
-      (c .before .before .before .before .loop .inv .1 log heads tails)
-      ∙ sym (mask-next (ready (c .before .before .before .before .before .before .args .table .now) (siteWith (c .before .before .before .before .before .before .args .t3) (c .before .before .before .before .before .before .args .comms .now) (c .before .before .before .before .before .before .args .entries .now) (c .before .before .before .before .before .before .args .lens .now) log heads tails)) (c .before .before .before .before .before .before .args .n) (c .before .before .before .before .loop .a) (c .before .before .before .loop-test .taken) (c .before .before .before .before .loop .inv .0)),
+      (c .before .before .before .before .loop .inv .1 log ends)
+      ∙ sym (mask-next (ready (c .before .before .before .before .before .before .args .table .now) (siteWith (c .before .before .before .before .before .before .args .t3) (c .before .before .before .before .before .before .args .comms .now) (c .before .before .before .before .before .before .args .queues .now) log ends)) (c .before .before .before .before .before .before .args .n) (c .before .before .before .before .loop .a) (c .before .before .before .loop-test .taken) (c .before .before .before .before .loop .inv .0)),
 )
 
 returns : tie.Need-returns Inv-loop μ-loop
 returns c =
-    λ log heads tails.
-    c .before .loop .inv .1 log heads tails ∙ mask-end (ready (c .before .before .before .args .table .now) (siteWith (c .before .before .before .args .t3) (c .before .before .before .args .comms .now) (c .before .before .before .args .entries .now) (c .before .before .before .args .lens .now) log heads tails)) (c .before .before .before .args .n) (c .before .loop .a) (c .loop-test .left)
-    ∙ ap (λ (n : ℕ). maskOf (ready (c .before .before .before .args .table .now) (siteWith (c .before .before .before .args .t3) (c .before .before .before .args .comms .now) (c .before .before .before .args .entries .now) (c .before .before .before .args .lens .now) log heads tails)) n 0) (c .before .before .before .pre .1)
+    λ log ends.
+    c .before .loop .inv .1 log ends ∙ mask-end (ready (c .before .before .before .args .table .now) (siteWith (c .before .before .before .args .t3) (c .before .before .before .args .comms .now) (c .before .before .before .args .queues .now) log ends)) (c .before .before .before .args .n) (c .before .loop .a) (c .loop-test .left)
+    ∙ ap (λ (n : ℕ). maskOf (ready (c .before .before .before .args .table .now) (siteWith (c .before .before .before .args .t3) (c .before .before .before .args .comms .now) (c .before .before .before .args .queues .now) log ends)) n 0) (c .before .before .before .pre .1)
 
 pub ready-mask-spec : {M : Type 1} → statement M
 ready-mask-spec =

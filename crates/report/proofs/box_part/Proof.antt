@@ -16,16 +16,16 @@ use Rattle.report.proofs.box_part.Tie as tie
 
 -- what is to be written: the length, the Sends' names, the Receives' names
 abbrev count : (s : tie.Start) → ℕ → ℕ
-count s port = countIn (s .args .log .now) (s .args .heads .now) (s .args .tails .now) port
+count s port = countIn (s .args .log .now) (s .args .ends .now) port
 
 abbrev steps : (s : tie.Start) → ℕ → List ℕ
-steps s port = portBytes (s .args .log .now) (s .args .heads .now) (s .args .tails .now) port
+steps s port = portBytes (s .args .log .now) (s .args .ends .now) port
 
 abbrev whole : (s : tie.Start) → List ℕ
 whole s = word (count s (2 * s .args .m) + count s (2 * s .args .m + 1)) ++ (steps s (2 * s .args .m) ++ steps s (2 * s .args .m + 1))
 
-same : (s : tie.Start) → whole s ≡ boxBytes (queueOf (s .args .log .now) (s .args .heads .now) (s .args .tails .now) (s .args .m))
-same s = box-split (s .args .log .now) (s .args .heads .now) (s .args .tails .now) (s .pre .0) (s .args .m) (s .pre .1)
+same : (s : tie.Start) → whole s ≡ boxBytes (queueOf (s .args .log .now) (s .args .ends .now) (s .args .m))
+same s = box-split (s .args .log .now) (s .args .ends .now) (s .pre .0) (s .args .m) (s .pre .1)
 
 fits : (s : tie.Start) → length (whole s) ≤ length (s .args .buf .now)
 fits s = subst (λ (l : List ℕ). length l ≤ length (s .args .buf .now)) (sym (same s)) (s .pre .2)
@@ -37,7 +37,7 @@ waiting-requires : tie.Need-waiting-requires
 waiting-requires c κs =
     let s = c .before in
     let r = s .pre .0 in
-    (r .heads-long, r .tails-long, omega (arith, s .pre .1), r .ordered (2 * s .args .m))
+    (r .ends-long, omega (arith, s .pre .1), r .ordered (2 * s .args .m))
 
 mul-waiting-2 : tie.Need-mul-waiting-2
 mul-waiting-2 c = search needs
@@ -49,7 +49,7 @@ waiting-requires-2 : tie.Need-waiting-requires-2
 waiting-requires-2 c κs =
     let s = c .before .before in
     let r = s .pre .0 in
-    (r .heads-long, r .tails-long, omega (arith, s .pre .1), r .ordered (2 * s .args .m + 1))
+    (r .ends-long, omega (arith, s .pre .1), r .ordered (2 * s .args .m + 1))
 
 add-size : tie.Need-add-size
 add-size c =
@@ -100,7 +100,7 @@ add-next c =
 
 -- so are the Sends
 half : (c : tie.After-slice-known3) → let s = c .before .before .before .before .before .before .before .before .before .before .before in let t = c .before .before .before .before .before .before .two in let p = c .before .before .port-part in
-    Begun (whole s) (s .args .buf .now) (joined (t .result) (t .last .1 .1 .0) (p .last .1 .1 .1 .1 .0)) (t .result + p .result) (steps s (2 * s .args .m + 1))
+    Begun (whole s) (s .args .buf .now) (joined (t .result) (t .last .1 .1 .0) (p .last .1 .1 .1 .0)) (t .result + p .result) (steps s (2 * s .args .m + 1))
 half c =
     let s = c .before .before .before .before .before .before .before .before .before .before .before in
     next-section (steps s (2 * s .args .m)) (steps s (2 * s .args .m + 1)) (sized (c .before .before .before .before)) (c .before .before .port-part .ensures)
@@ -140,7 +140,7 @@ returns c =
     let t = h .before .before .before .before .before .before .two in
     let p = h .before .before .port-part in
     let q = c .before .before .port-part2 in
-    subst (λ (l : List ℕ). Wrote (s .args .buf .now) l (joined (t .result + p .result) (joined (t .result) (t .last .1 .1 .0) (p .last .1 .1 .1 .1 .0)) (q .last .1 .1 .1 .1 .0)) (t .result + p .result + q .result)) (same s)
+    subst (λ (l : List ℕ). Wrote (s .args .buf .now) l (joined (t .result + p .result) (joined (t .result) (t .last .1 .1 .0) (p .last .1 .1 .1 .0)) (q .last .1 .1 .1 .0)) (t .result + p .result + q .result)) (same s)
     (last-wrote (half h) (q .ensures))
 
 pub box-part-spec : {M : Type 1} → statement M

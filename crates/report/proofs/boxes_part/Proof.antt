@@ -9,14 +9,14 @@ use Rattle.writing.proofs.Loops.{Turn, first-turn, next-at, next-room, next-sum
 use Rattle.report.proofs.boxes_part.Statement.{statement}
 use Rattle.report.proofs.boxes_part.Tie as tie
 
-abbrev box : (log heads tails : List ℕ) → ℕ → List ℕ
-box log heads tails m = boxBytes (queueOf log heads tails m)
+abbrev box : (log ends : List ℕ) → ℕ → List ℕ
+box log ends m = boxBytes (queueOf log ends m)
 
 abbrev Inv-loop : tie.InvT-loop
-Inv-loop log heads tails count buf₀ at₀ m₀ buf at m = Turn (box log heads tails) count buf₀ m buf at
+Inv-loop log ends count buf₀ at₀ m₀ buf at m = Turn (box log ends) count buf₀ m buf at
 
 abbrev μ-loop : tie.MeasureT-loop
-μ-loop log heads tails count buf₀ at₀ m₀ buf at m = count - m
+μ-loop log ends count buf₀ at₀ m₀ buf at m = count - m
 
 loop-holds : tie.Need-loop-holds Inv-loop μ-loop
 loop-holds c = first-turn (c .before .pre .2)

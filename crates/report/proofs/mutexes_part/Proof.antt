@@ -9,46 +9,36 @@ use Rattle.writing.proofs.Loops.{Turn, first-turn, next-at, next-room, next-sum
 use Rattle.report.proofs.mutexes_part.Statement.{statement}
 use Rattle.report.proofs.mutexes_part.Tie as tie
 
-abbrev mutex : (entries lens : List ℕ) → ℕ → List ℕ
-mutex entries lens m = mutexBytes (queuesOf entries lens m)
+abbrev mutex : (queues : List ℕ) → ℕ → List ℕ
+mutex queues m = mutexBytes (queuesOf queues m)
 
 abbrev Inv-loop : tie.InvT-loop
-Inv-loop entries lens count buf₀ at₀ m₀ buf at m = Turn (mutex entries lens) count buf₀ m buf at
+Inv-loop queues count buf₀ at₀ m₀ buf at m = Turn (mutex queues) count buf₀ m buf at
 
 abbrev μ-loop : tie.MeasureT-loop
-μ-loop entries lens count buf₀ at₀ m₀ buf at m = count - m
+μ-loop queues count buf₀ at₀ m₀ buf at m = count - m
 
 loop-holds : tie.Need-loop-holds Inv-loop μ-loop
 loop-holds c = first-turn (c .before .pre .2)
 
-mul-len : tie.Need-mul-len Inv-loop μ-loop
-mul-len c = search needs
-
-element-copy-out-len : tie.Need-element-copy-out-len Inv-loop μ-loop
-element-copy-out-len c = omega (arith, c .before .before .before .pre .1, c .before .before .before .pre .0 .lens-long)
-
 sub-mutex-part : tie.Need-sub-mutex-part Inv-loop μ-loop
-sub-mutex-part c = next-at (c .before .before .loop .inv) (c .before .loop-test .taken)
+sub-mutex-part c = next-at (c .before .loop .inv) (c .loop-test .taken)
 
 part-mutex-part-start : tie.Need-part-mutex-part-start Inv-loop μ-loop
-part-mutex-part-start c = next-at (c .before .before .loop .inv) (c .before .loop-test .taken)
+part-mutex-part-start c = next-at (c .before .loop .inv) (c .loop-test .taken)
 
 part-mutex-part-end : tie.Need-part-mutex-part-end Inv-loop μ-loop
 part-mutex-part-end c = search needs
 
 mutex-part-requires : tie.Need-mutex-part-requires Inv-loop μ-loop
 mutex-part-requires c κs =
-    let t = c .before .before in
-    let s = t .before .before .before in (
-      s .pre .0 .entries-long,
-      omega (arith, t .loop-test .taken, s .pre .1),
-      s .pre .0 .bounded (t .before .loop .m),
-      next-room (t .before .loop .inv) (t .loop-test .taken),
-    )
+    let t = c .before in
+    let s = t .before .before .before in
+    (s .pre .0, omega (arith, t .loop-test .taken, s .pre .1), next-room (t .before .loop .inv) (t .loop-test .taken))
 
 add-at : tie.Need-add-at Inv-loop μ-loop
 add-at c =
-    let t = c .before .before .before .before .before in
+    let t = c .before .before .before .before in
     omega (arith, next-sum (t .before .loop .inv) (t .loop-test .taken) (c .before .before .mutex-part .ensures .0))
 
 add-m : tie.Need-add-m Inv-loop μ-loop
@@ -59,7 +49,7 @@ loop-less c = search needs
 
 loop-again : tie.Need-loop-again Inv-loop μ-loop
 loop-again c =
-    let t = c .before .before .before .before .before in
+    let t = c .before .before .before .before in
     next-turn (t .before .loop .inv) (t .loop-test .taken) (c .before .before .mutex-part .ensures)
 
 same-length : tie.Need-same-length Inv-loop μ-loop
@@ -75,8 +65,6 @@ mutexes-part-spec =
     Inv-loop
     μ-loop
     loop-holds
-    mul-len
-    element-copy-out-len
     sub-mutex-part
     part-mutex-part-start
     part-mutex-part-end

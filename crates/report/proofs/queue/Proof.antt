@@ -13,18 +13,18 @@ use Rattle.report.proofs.queue.Statement.{statement}
 use Rattle.report.proofs.queue.Tie as tie
 
 abbrev Inv-loop : tie.InvT-loop
-Inv-loop entries from count buf₀ i₀ buf i = Turn (byteOf entries from) count buf₀ i buf i
+Inv-loop queues from count buf₀ i₀ buf i = Turn (byteOf queues from) count buf₀ i buf i
 
 abbrev μ-loop : tie.MeasureT-loop
-μ-loop entries from count buf₀ i₀ buf i = count - i
+μ-loop queues from count buf₀ i₀ buf i = count - i
 
 -- the parts that the loop writes are the report's
-same : (s : tie.Start Inv-loop μ-loop) → parts (byteOf (s .args .entries .now) (s .args .from)) (s .args .count) 0 ≡ take (s .args .count) (drop (s .args .from) (s .args .entries .now))
-same s = bytes-at (s .args .entries .now) (s .args .from) (s .args .count) (omega (arith, s .pre .0, s .pre .1))
+same : (s : tie.Start Inv-loop μ-loop) → parts (byteOf (s .args .queues .now) (s .args .from)) (s .args .count) 0 ≡ take (s .args .count) (drop (s .args .from) (s .args .queues .now))
+same s = bytes-at (s .args .queues .now) (s .args .from) (s .args .count) (omega (arith, s .pre .0, s .pre .1))
 
 loop-holds : tie.Need-loop-holds Inv-loop μ-loop
 loop-holds c =
-    let count : length (parts (byteOf (c .args .entries .now) (c .args .from)) (c .args .count) 0) ≡ c .args .count = ap length (same c) ∙ taken-length (c .args .entries .now) (c .args .from) (c .args .count) (omega (arith, c .pre .0, c .pre .1)) in
+    let count : length (parts (byteOf (c .args .queues .now) (c .args .from)) (c .args .count) 0) ≡ c .args .count = ap length (same c) ∙ taken-length (c .args .queues .now) (c .args .from) (c .args .count) (omega (arith, c .pre .0, c .pre .1)) in
     first-turn (subst (λ (n : ℕ). n ≤ length (c .args .buf .now)) (sym count) (c .pre .2))
 
 add-buf : tie.Need-add-buf Inv-loop μ-loop

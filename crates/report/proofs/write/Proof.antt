@@ -10,7 +10,7 @@ use Rattle.model.specs.Site.{Site}
 use Rattle.model.specs.Report.{report}
 use Rattle.state.specs.State.{siteOf}
 use Rattle.writing.specs.Written.{Wrote}
-use Rattle.report.specs.ReportParts.{actorsBytes, actionsBytes, boxesBytes, mutexesBytes, CommsRoom, LogRoom}
+use Rattle.report.specs.ReportParts.{actorsBytes, actionsBytes, boxesBytes, mutexesBytes}
 use Rattle.writing.proofs.Written.{rest, joined}
 use Rattle.writing.proofs.Sections.{Begun, first-section, left-at, left-room, last-sum, last-wrote, section-room, section-sum, next-section}
 use Rattle.report.proofs.write.Statement.{statement}
@@ -24,16 +24,16 @@ abbrev sec2 : (s : tie.Start) → List ℕ
 sec2 s = actionsBytes (s .args .table .now) (s .args .comms .now) (actorsOf (s .args .table .now))
 
 abbrev sec3 : (s : tie.Start) → List ℕ
-sec3 s = boxesBytes (s .args .log .now) (s .args .heads .now) (s .args .tails .now) (mailboxesOf (s .args .table .now))
+sec3 s = boxesBytes (s .args .log .now) (s .args .ends .now) (mailboxesOf (s .args .table .now))
 
 abbrev sec4 : (s : tie.Start) → List ℕ
-sec4 s = mutexesBytes (s .args .entries .now) (s .args .lens .now) (mutexesOf (s .args .table .now))
+sec4 s = mutexesBytes (s .args .queues .now) (mutexesOf (s .args .table .now))
 
 abbrev whole : (s : tie.Start) → List ℕ
 whole s = sec1 s ++ (sec2 s ++ (sec3 s ++ sec4 s))
 
 abbrev site : (s : tie.Start) → Site
-site s = siteOf (s .args .actors) (s .args .comms .now) (s .args .log .now) (s .args .heads .now) (s .args .tails .now) (s .args .entries .now) (s .args .lens .now)
+site s = siteOf (s .args .actors) (s .args .comms .now) (s .args .log .now) (s .args .ends .now) (s .args .queues .now)
 
 same : (s : tie.Start) → whole s ≡ report (s .args .table .now) (site s)
 unfolding report
@@ -41,14 +41,6 @@ same s = refl
 
 fits : (s : tie.Start) → length (whole s) ≤ length (s .args .buf .now)
 fits s = subst (λ (l : List ℕ). length l ≤ length (s .args .buf .now)) (sym (same s)) (s .pre .room)
-
-comms-room : (s : tie.Start) → CommsRoom (s .args .comms .now)
-comms-room s = record { long = s .pre .mail .comms-long; valued = s .pre .mail .valued }
-
-log-room : (s : tie.Start) → LogRoom (s .args .log .now) (s .args .heads .now) (s .args .tails .now)
-log-room s =
-    let r = s .pre .mail in
-    record { log-long = r .log-long; heads-long = r .heads-long; tails-long = r .tails-long; ordered = r .ordered; bounded = r .bounded }
 
 actors-requires : tie.Need-actors-requires
 actors-requires c κs = search needs
@@ -85,7 +77,7 @@ abbrev past3 : tie.After-slice-known4 → tie.After-slice-known3
 past3 c = c .before .before .before .before .before
 
 abbrev buf3 : tie.After-slice-known4 → List ℕ
-buf3 c = joined (at2 (past3 c)) (buf2 (past3 c)) (c .before .before .boxes-part .last .1 .1 .1 .1 .0)
+buf3 c = joined (at2 (past3 c)) (buf2 (past3 c)) (c .before .before .boxes-part .last .1 .1 .1 .0)
 
 abbrev at3 : tie.After-slice-known4 → ℕ
 at3 c = at2 (past3 c) + c .before .before .boxes-part .result
@@ -114,7 +106,7 @@ actions-part-requires c κs =
     let b = c .before in
     let s = start1 b in
     let n = sym (b .before .before .before .before .actors .ensures) in (
-      comms-room s,
+      s .pre .mail-room .comms-room,
       subst (λ (k : ℕ). k ≤ 8) n (s .pre .accepted .actors-most),
       subst (λ (k : ℕ). (a : ℕ) → a < k → countOf (s .args .table .now) a ≤ 32) n (s .pre .accepted .actions-most),
       subst (λ (k : ℕ). length (actionsBytes (s .args .table .now) (s .args .comms .now) k) ≤ length (rest (at1 b) (buf1 b))) n (section-room (sec2 s) (sec3 s ++ sec4 s) (begun1 b)),
@@ -154,18 +146,18 @@ boxes-part-requires c κs =
     let b = c .before .before in
     let s = start1 (past2 b) in
     let n = sym (c .before .mailboxes .ensures) in (
-      log-room s,
+      s .pre .mail-room .log-room,
       subst (λ (k : ℕ). k ≤ 8) n (s .pre .accepted .mailboxes-most),
-      subst (λ (k : ℕ). length (boxesBytes (s .args .log .now) (s .args .heads .now) (s .args .tails .now) k) ≤ length (rest (at2 b) (buf2 b))) n (section-room (sec3 s) (sec4 s) (begun2 b)),
+      subst (λ (k : ℕ). length (boxesBytes (s .args .log .now) (s .args .ends .now) k) ≤ length (rest (at2 b) (buf2 b))) n (section-room (sec3 s) (sec4 s) (begun2 b)),
     )
 
 -- the mailboxes too
-wrote3 : (c : tie.After-slice-known4) → let b = past3 c in let w = c .before .before .boxes-part in Wrote (rest (at2 b) (buf2 b)) (sec3 (start1 (past2 b))) (w .last .1 .1 .1 .1 .0) (w .result)
+wrote3 : (c : tie.After-slice-known4) → let b = past3 c in let w = c .before .before .boxes-part in Wrote (rest (at2 b) (buf2 b)) (sec3 (start1 (past2 b))) (w .last .1 .1 .1 .0) (w .result)
 wrote3 c =
     let b = past3 c in
     let s = start1 (past2 b) in
     let w = c .before .before .boxes-part in
-    subst (λ (n : ℕ). Wrote (rest (at2 b) (buf2 b)) (boxesBytes (s .args .log .now) (s .args .heads .now) (s .args .tails .now) n) (w .last .1 .1 .1 .1 .0) (w .result)) (c .before .before .before .before .mailboxes .ensures) (w .ensures)
+    subst (λ (n : ℕ). Wrote (rest (at2 b) (buf2 b)) (boxesBytes (s .args .log .now) (s .args .ends .now) n) (w .last .1 .1 .1 .0) (w .result)) (c .before .before .before .before .mailboxes .ensures) (w .ensures)
 
 begun3 : (c : tie.After-slice-known4) → let s = start1 (past2 (past3 c)) in Begun (whole s) (s .args .buf .now) (buf3 c) (at3 c) (sec4 s)
 begun3 c =
@@ -194,18 +186,18 @@ mutexes-part-requires c κs =
     let b = c .before .before in
     let s = start1 (past2 (past3 b)) in
     let n = sym (c .before .mutexes .ensures) in (
-      s .pre .queues,
+      s .pre .queue-room,
       subst (λ (k : ℕ). k ≤ 8) n (s .pre .accepted .mutexes-most),
-      subst (λ (k : ℕ). length (mutexesBytes (s .args .entries .now) (s .args .lens .now) k) ≤ length (rest (at3 b) (buf3 b))) n (left-room (begun3 b)),
+      subst (λ (k : ℕ). length (mutexesBytes (s .args .queues .now) k) ≤ length (rest (at3 b) (buf3 b))) n (left-room (begun3 b)),
     )
 
 -- and the mutexes
-wrote4 : (c : tie.After-slice-known5) → let b = past4 c in let w = c .before .before .mutexes-part in Wrote (rest (at3 b) (buf3 b)) (sec4 (start1 (past2 (past3 b)))) (w .last .1 .1 .1 .0) (w .result)
+wrote4 : (c : tie.After-slice-known5) → let b = past4 c in let w = c .before .before .mutexes-part in Wrote (rest (at3 b) (buf3 b)) (sec4 (start1 (past2 (past3 b)))) (w .last .1 .1 .0) (w .result)
 wrote4 c =
     let b = past4 c in
     let s = start1 (past2 (past3 b)) in
     let w = c .before .before .mutexes-part in
-    subst (λ (n : ℕ). Wrote (rest (at3 b) (buf3 b)) (mutexesBytes (s .args .entries .now) (s .args .lens .now) n) (w .last .1 .1 .1 .0) (w .result)) (c .before .before .before .before .mutexes .ensures) (w .ensures)
+    subst (λ (n : ℕ). Wrote (rest (at3 b) (buf3 b)) (mutexesBytes (s .args .queues .now) n) (w .last .1 .1 .0) (w .result)) (c .before .before .before .before .mutexes .ensures) (w .ensures)
 
 add-result : tie.Need-add-result
 add-result c =
@@ -220,7 +212,7 @@ returns c =
     let b = past4 c in
     let s = start1 (past2 (past3 b)) in
     let w = c .before .before .mutexes-part in
-    subst (λ (l : List ℕ). Wrote (s .args .buf .now) l (joined (at3 b) (buf3 b) (w .last .1 .1 .1 .0)) (at3 b + w .result)) (same s) (last-wrote (begun3 b) (wrote4 c))
+    subst (λ (l : List ℕ). Wrote (s .args .buf .now) l (joined (at3 b) (buf3 b) (w .last .1 .1 .0)) (at3 b + w .result)) (same s) (last-wrote (begun3 b) (wrote4 c))
 
 pub write-spec : {M : Type 1} → statement M
 write-spec =

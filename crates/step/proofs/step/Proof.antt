@@ -74,17 +74,17 @@ mul-send c = search needs
 
 add-send : tie.Need-add-send
 add-send c =
-    omega (arith, position-small (c .before .before .before .before .before .before .before .before .before .before .pre), actor-small (c .before .before .before .before .before .before .before .before .before .before .pre))
+    omega (arith, position-small (c .before .before .before .before .before .before .before .before .before .pre), actor-small (c .before .before .before .before .before .before .before .before .before .pre))
 
 send-requires : tie.Need-send-requires
 send-requires c κs =
-    let S = c .before .before .before .before .before .before .before .before .before .before .pre in
-    let range = ranged (c .before .before .before .before .before .before .before .before .before .before .pre) _ (sym (c .before .before .before .before .before .before .before .before .action .ensures) ∙ c .before .before .before .before .before .before .x4 .given .1) in
-    (S .mail-room, omega (arith, position-small S, actor-small S), omega (arith, range .0, S .accepted .mailboxes-most), S .tail-room (ap waits (sym (c .before .before .before .before .before .before .before .before .action .ensures) ∙ c .before .before .before .before .before .before .x4 .given .1)) _)
+    let S = c .before .before .before .before .before .before .before .before .before .pre in
+    let range = ranged (c .before .before .before .before .before .before .before .before .before .pre) _ (sym (c .before .before .before .before .before .before .before .action .ensures) ∙ c .before .before .before .before .before .x4 .given .1) in
+    (S .mail-room, omega (arith, position-small S, actor-small S), omega (arith, range .0, S .accepted .mailboxes-most), S .tail-room (ap waits (sym (c .before .before .before .before .before .before .before .action .ensures) ∙ c .before .before .before .before .before .x4 .given .1)) _)
 
 next-requires-4 : tie.Need-next-requires-4
 next-requires-4 c κs =
-    position-small (c .before .before .before .before .before .before .before .before .before .before .before .pre)
+    position-small (c .before .before .before .before .before .before .before .before .before .before .pre)
 
 enum-known-x-5 : tie.Need-enum-known-x-5
 enum-known-x-5 c = search needs
@@ -94,17 +94,17 @@ mul-receive c = search needs
 
 add-receive : tie.Need-add-receive
 add-receive c =
-    omega (arith, position-small (c .before .before .before .before .before .before .before .before .before .pre), actor-small (c .before .before .before .before .before .before .before .before .before .pre))
+    omega (arith, position-small (c .before .before .before .before .before .before .before .before .pre), actor-small (c .before .before .before .before .before .before .before .before .pre))
 
 receive-requires : tie.Need-receive-requires
 receive-requires c κs =
-    let S = c .before .before .before .before .before .before .before .before .before .pre in
-    let range = ranged (c .before .before .before .before .before .before .before .before .before .pre) _ (sym (c .before .before .before .before .before .before .before .action .ensures) ∙ c .before .before .before .before .before .x5 .given .1) in
-    (S .mail-room, omega (arith, position-small S, actor-small S), omega (arith, range .0, S .accepted .mailboxes-most), S .tail-room (ap waits (sym (c .before .before .before .before .before .before .before .action .ensures) ∙ c .before .before .before .before .before .x5 .given .1)) _)
+    let S = c .before .before .before .before .before .before .before .before .pre in
+    let range = ranged (c .before .before .before .before .before .before .before .before .pre) _ (sym (c .before .before .before .before .before .before .action .ensures) ∙ c .before .before .before .before .x5 .given .1) in
+    (S .mail-room, omega (arith, position-small S, actor-small S), omega (arith, range .0, S .accepted .mailboxes-most), S .tail-room (ap waits (sym (c .before .before .before .before .before .before .action .ensures) ∙ c .before .before .before .before .x5 .given .1)) _)
 
 next-requires-5 : tie.Need-next-requires-5
 next-requires-5 c κs =
-    position-small (c .before .before .before .before .before .before .before .before .before .before .pre)
+    position-small (c .before .before .before .before .before .before .before .before .before .pre)
 
 enum-known-x-6 : tie.Need-enum-known-x-6
 enum-known-x-6 c = search needs
@@ -113,7 +113,7 @@ communications-requires : tie.Need-communications-requires
 communications-requires c κs =
     let S = c .before .before .before .before .before .before .pre in
     let range = ranged (c .before .before .before .before .before .before .pre) _ (sym (c .before .before .before .before .action .ensures) ∙ c .before .before .x6 .given .1) in
-    (S .mail-room .comms-long, S .mail-room .valued, actor-small S, listed-small S _ (range .1))
+    (S .mail-room .comms-room, actor-small S, listed-small S _ (range .1))
 
 picked-requires : tie.Need-picked-requires
 picked-requires c κs =
@@ -136,7 +136,7 @@ communications-requires-2 : tie.Need-communications-requires-2
 communications-requires-2 c κs =
     let S = c .before .before .before .before .before .before .pre in
     let range = ranged (c .before .before .before .before .before .before .pre) _ (sym (c .before .before .before .before .action .ensures) ∙ c .before .before .x7 .given .1) in
-    (S .mail-room .comms-long, S .mail-room .valued, actor-small S, listed-small S _ (range .1))
+    (S .mail-room .comms-room, actor-small S, listed-small S _ (range .1))
 
 is-seen-requires : tie.Need-is-seen-requires
 is-seen-requires c κs = search needs
@@ -160,40 +160,40 @@ enum-known-x-8 c = search needs
 
 join-requires : tie.Need-join-requires
 join-requires c κs =
-    let S = c .before .before .before .before .before .before .before .pre in
-    let range = ranged (c .before .before .before .before .before .before .before .pre) _ (sym (c .before .before .before .before .before .action .ensures) ∙ c .before .before .before .x8 .given .1) in
+    let S = c .before .before .before .before .before .before .pre in
+    let range = ranged (c .before .before .before .before .before .before .pre) _ (sym (c .before .before .before .before .action .ensures) ∙ c .before .before .x8 .given .1) in
     (S .queue-room, omega (arith, range, S .accepted .mutexes-most), actor-small S, S .join-room _)
 
 next-requires-6 : tie.Need-next-requires-6
 next-requires-6 c κs =
-    position-small (c .before .before .before .before .before .before .before .before .pre)
+    position-small (c .before .before .before .before .before .before .before .pre)
 
 enum-known-x-9 : tie.Need-enum-known-x-9
 enum-known-x-9 c = search needs
 
 leave-requires : tie.Need-leave-requires
 leave-requires c κs =
-    let S = c .before .before .before .before .before .before .before .pre in
-    let range = ranged (c .before .before .before .before .before .before .before .pre) _ (sym (c .before .before .before .before .before .action .ensures) ∙ c .before .before .before .x9 .given .1) in
+    let S = c .before .before .before .before .before .before .pre in
+    let range = ranged (c .before .before .before .before .before .before .pre) _ (sym (c .before .before .before .before .action .ensures) ∙ c .before .before .x9 .given .1) in
     (S .queue-room, omega (arith, range, S .accepted .mutexes-most), actor-small S)
 
 next-requires-7 : tie.Need-next-requires-7
 next-requires-7 c κs =
-    position-small (c .before .before .before .before .before .before .before .before .pre)
+    position-small (c .before .before .before .before .before .before .before .pre)
 
 enum-known-x-10 : tie.Need-enum-known-x-10
 enum-known-x-10 c = search needs
 
 mutexes-requires : tie.Need-mutexes-requires
 mutexes-requires c κs =
-    let S = c .before .before .before .before .before .before .before .pre in
-    let range = ranged (c .before .before .before .before .before .before .before .pre) _ (sym (c .before .before .before .before .before .action .ensures) ∙ c .before .before .before .x10 .given .1) in
+    let S = c .before .before .before .before .before .before .pre in
+    let range = ranged (c .before .before .before .before .before .before .pre) _ (sym (c .before .before .before .before .action .ensures) ∙ c .before .before .x10 .given .1) in
     (S .queue-room, λ j h. omega (arith, range .1 .right j h, S .accepted .mutexes-most))
 
 told-requires-3 : tie.Need-told-requires-3
 told-requires-3 c κs =
-    let S = c .before .before .before .before .before .before .before .before .pre in
-    let range = ranged (c .before .before .before .before .before .before .before .before .pre) _ (sym (c .before .before .before .before .before .before .action .ensures) ∙ c .before .before .before .before .x10 .given .1) in
+    let S = c .before .before .before .before .before .before .before .pre in
+    let range = ranged (c .before .before .before .before .before .before .before .pre) _ (sym (c .before .before .before .before .before .action .ensures) ∙ c .before .before .before .x10 .given .1) in
     (S .eight, range .0, position-small S, subst SmallPlace (sym (c .mutexes .ensures)) (small-place _ _ _ (range .1 .most)))
 
 enum-known-x-11 : tie.Need-enum-known-x-11
@@ -201,8 +201,8 @@ enum-known-x-11 c = search needs
 
 mutexes-requires-2 : tie.Need-mutexes-requires-2
 mutexes-requires-2 c κs =
-    let S = c .before .before .before .before .before .before .before .pre in
-    let range = ranged (c .before .before .before .before .before .before .before .pre) _ (sym (c .before .before .before .before .before .action .ensures) ∙ c .before .before .before .x11 .given .1) in
+    let S = c .before .before .before .before .before .before .pre in
+    let range = ranged (c .before .before .before .before .before .before .pre) _ (sym (c .before .before .before .before .action .ensures) ∙ c .before .before .x11 .given .1) in
     (S .queue-room, λ j h. omega (arith, range .1 .right j h, S .accepted .mutexes-most))
 
 is-seen-requires-2 : tie.Need-is-seen-requires-2
@@ -210,8 +210,8 @@ is-seen-requires-2 c κs = search needs
 
 told-requires-4 : tie.Need-told-requires-4
 told-requires-4 c κs =
-    let S = c .before .before .before .before .before .before .before .before .before .pre in
-    let range = ranged (c .before .before .before .before .before .before .before .before .before .pre) _ (sym (c .before .before .before .before .before .before .before .action .ensures) ∙ c .before .before .before .before .before .x11 .given .1) in
+    let S = c .before .before .before .before .before .before .before .before .pre in
+    let range = ranged (c .before .before .before .before .before .before .before .before .pre) _ (sym (c .before .before .before .before .before .before .action .ensures) ∙ c .before .before .before .before .x11 .given .1) in
     (S .eight, range .0, position-small S, subst SmallPlace (sym (c .before .mutexes2 .ensures)) (small-place _ _ _ (range .1 .most)))
 
 returns : tie.Need-returns
@@ -241,17 +241,17 @@ returns-3 c =
 returns-4 : tie.Need-returns-4
 unfolding cellsAfter
 returns-4 c =
-    of-next (Send (c .before .before .before .before .before .before .before .before .x4 .given .0 .0) (c .before .before .before .before .before .before .before .before .x4 .given .0 .1 .0)) (sym (c .before .before .before .before .before .before .before .before .before .before .action .ensures) ∙ c .before .before .before .before .before .before .before .before .x4 .given .1)
-    (posted (c .before .before .before .before .before .before .before .before .before .before .before .before .pre) (Send (c .before .before .before .before .before .before .before .before .x4 .given .0 .0) (c .before .before .before .before .before .before .before .before .x4 .given .0 .1 .0)) (record { ready = true; actor = c .next4 .result }) (sendsAt (c .before .before .before .before .before .before .before .before .x4 .given .0 .0)) (getD (c .before .before .before .before .before .before .before .before .before .before .before .before .args .t3 .cells) (c .before .before .before .before .before .before .before .before .x4 .given .0 .1 .0) 0) refl refl refl
-    (c .before .send .ensures .mail ∙ meets-as (c .before .before .before .before .before .before .before .before .before .before .before .before .pre) (sendsAt (c .before .before .before .before .before .before .before .before .x4 .given .0 .0)) (getD (c .before .before .before .before .before .before .before .before .before .before .before .before .args .t3 .cells) (c .before .before .before .before .before .before .before .before .x4 .given .0 .1 .0) 0) (mailOf (c .before .before .before .before .before .before .before .before .before .before .before .before .args .comms .now) (c .before .before .before .before .before .before .before .before .before .before .before .before .args .log .now) (c .before .before .before .before .before .before .before .before .before .before .before .before .args .heads .now) (c .before .before .before .before .before .before .before .before .before .before .before .before .args .tails .now)))
+    of-next (Send (c .before .before .before .before .before .before .before .x4 .given .0 .0) (c .before .before .before .before .before .before .before .x4 .given .0 .1 .0)) (sym (c .before .before .before .before .before .before .before .before .before .action .ensures) ∙ c .before .before .before .before .before .before .before .x4 .given .1)
+    (posted (c .before .before .before .before .before .before .before .before .before .before .before .pre) (Send (c .before .before .before .before .before .before .before .x4 .given .0 .0) (c .before .before .before .before .before .before .before .x4 .given .0 .1 .0)) (record { ready = true; actor = c .next4 .result }) (sendsAt (c .before .before .before .before .before .before .before .x4 .given .0 .0)) (getD (c .before .before .before .before .before .before .before .before .before .before .before .args .t3 .cells) (c .before .before .before .before .before .before .before .x4 .given .0 .1 .0) 0) refl refl refl
+    (c .before .send .ensures .mail ∙ meets-as (c .before .before .before .before .before .before .before .before .before .before .before .pre) (sendsAt (c .before .before .before .before .before .before .before .x4 .given .0 .0)) (getD (c .before .before .before .before .before .before .before .before .before .before .before .args .t3 .cells) (c .before .before .before .before .before .before .before .x4 .given .0 .1 .0) 0) (mailOf (c .before .before .before .before .before .before .before .before .before .before .before .args .comms .now) (c .before .before .before .before .before .before .before .before .before .before .before .args .log .now) (c .before .before .before .before .before .before .before .before .before .before .before .args .ends .now)))
     (c .before .send .ensures .room) (c .before .send .ensures .grown) (c .next4 .ensures .0) (c .next4 .ensures .1))
 
 returns-5 : tie.Need-returns-5
 unfolding cellsAfter
 returns-5 c =
-    of-next (Receive (c .before .before .before .before .before .before .before .x5 .given .0 .0) (c .before .before .before .before .before .before .before .x5 .given .0 .1 .0)) (sym (c .before .before .before .before .before .before .before .before .before .action .ensures) ∙ c .before .before .before .before .before .before .before .x5 .given .1)
-    (posted (c .before .before .before .before .before .before .before .before .before .before .before .pre) (Receive (c .before .before .before .before .before .before .before .x5 .given .0 .0) (c .before .before .before .before .before .before .before .x5 .given .0 .1 .0)) (record { ready = true; actor = c .next5 .result }) (receivesAt (c .before .before .before .before .before .before .before .x5 .given .0 .0)) 0 refl refl refl
-    (c .before .receive .ensures .mail ∙ meets-as (c .before .before .before .before .before .before .before .before .before .before .before .pre) (receivesAt (c .before .before .before .before .before .before .before .x5 .given .0 .0)) 0 (mailOf (c .before .before .before .before .before .before .before .before .before .before .before .args .comms .now) (c .before .before .before .before .before .before .before .before .before .before .before .args .log .now) (c .before .before .before .before .before .before .before .before .before .before .before .args .heads .now) (c .before .before .before .before .before .before .before .before .before .before .before .args .tails .now)))
+    of-next (Receive (c .before .before .before .before .before .before .x5 .given .0 .0) (c .before .before .before .before .before .before .x5 .given .0 .1 .0)) (sym (c .before .before .before .before .before .before .before .before .action .ensures) ∙ c .before .before .before .before .before .before .x5 .given .1)
+    (posted (c .before .before .before .before .before .before .before .before .before .before .pre) (Receive (c .before .before .before .before .before .before .x5 .given .0 .0) (c .before .before .before .before .before .before .x5 .given .0 .1 .0)) (record { ready = true; actor = c .next5 .result }) (receivesAt (c .before .before .before .before .before .before .x5 .given .0 .0)) 0 refl refl refl
+    (c .before .receive .ensures .mail ∙ meets-as (c .before .before .before .before .before .before .before .before .before .before .pre) (receivesAt (c .before .before .before .before .before .before .x5 .given .0 .0)) 0 (mailOf (c .before .before .before .before .before .before .before .before .before .before .args .comms .now) (c .before .before .before .before .before .before .before .before .before .before .args .log .now) (c .before .before .before .before .before .before .before .before .before .before .args .ends .now)))
     (c .before .receive .ensures .room) (c .before .receive .ensures .grown) (c .next5 .ensures .0) (c .next5 .ensures .1))
 
 returns-6 : tie.Need-returns-6
@@ -277,32 +277,32 @@ returns-7 c =
 returns-8 : tie.Need-returns-8
 unfolding cellsAfter
 returns-8 c =
-    of-next (Lock (c .before .before .before .before .before .x8 .given .0 .0)) (sym (c .before .before .before .before .before .before .before .action .ensures) ∙ c .before .before .before .before .before .x8 .given .1)
-    (queued (c .before .before .before .before .before .before .before .before .before .pre) (Lock (c .before .before .before .before .before .x8 .given .0 .0)) (record { ready = true; actor = c .next6 .result }) (joins (c .before .before .before .before .before .x8 .given .0 .0)) refl refl (λ me v mail. refl)
+    of-next (Lock (c .before .before .before .before .x8 .given .0 .0)) (sym (c .before .before .before .before .before .before .action .ensures) ∙ c .before .before .before .before .x8 .given .1)
+    (queued (c .before .before .before .before .before .before .before .before .pre) (Lock (c .before .before .before .before .x8 .given .0 .0)) (record { ready = true; actor = c .next6 .result }) (joins (c .before .before .before .before .x8 .given .0 .0)) refl refl (λ me v mail. refl)
     (c .before .join .ensures .0) (c .before .join .ensures .1) (c .next6 .ensures .0) (c .next6 .ensures .1))
 
 returns-9 : tie.Need-returns-9
 unfolding cellsAfter
 returns-9 c =
-    of-next (Unlock (c .before .before .before .before .before .x9 .given .0 .0)) (sym (c .before .before .before .before .before .before .before .action .ensures) ∙ c .before .before .before .before .before .x9 .given .1)
-    (queued (c .before .before .before .before .before .before .before .before .before .pre) (Unlock (c .before .before .before .before .before .x9 .given .0 .0)) (record { ready = true; actor = c .next7 .result }) (leaves (c .before .before .before .before .before .x9 .given .0 .0)) refl refl (λ me v mail. refl)
+    of-next (Unlock (c .before .before .before .before .x9 .given .0 .0)) (sym (c .before .before .before .before .before .before .action .ensures) ∙ c .before .before .before .before .x9 .given .1)
+    (queued (c .before .before .before .before .before .before .before .before .pre) (Unlock (c .before .before .before .before .x9 .given .0 .0)) (record { ready = true; actor = c .next7 .result }) (leaves (c .before .before .before .before .x9 .given .0 .0)) refl refl (λ me v mail. refl)
     (c .before .leave .ensures .0) (c .before .leave .ensures .1) (c .next7 .ensures .0) (c .next7 .ensures .1))
 
 returns-10 : tie.Need-returns-10
 unfolding cellsAfter
 returns-10 c =
-    of-next (MutexTest (c .before .before .before .before .before .x10 .given .0 .0) (c .before .before .before .before .before .x10 .given .0 .1 .0)) (sym (c .before .before .before .before .before .before .before .action .ensures) ∙ c .before .before .before .before .before .x10 .given .1)
-    (quiet (c .before .before .before .before .before .before .before .before .before .pre) (MutexTest (c .before .before .before .before .before .x10 .given .0 .0) (c .before .before .before .before .before .x10 .given .0 .1 .0)) (record { ready = true; actor = c .told3 .result }) refl refl
+    of-next (MutexTest (c .before .before .before .before .x10 .given .0 .0) (c .before .before .before .before .x10 .given .0 .1 .0)) (sym (c .before .before .before .before .before .before .action .ensures) ∙ c .before .before .before .before .x10 .given .1)
+    (quiet (c .before .before .before .before .before .before .before .before .pre) (MutexTest (c .before .before .before .before .x10 .given .0 .0) (c .before .before .before .before .x10 .given .0 .1 .0)) (record { ready = true; actor = c .told3 .result }) refl refl
     (c .told3 .ensures .0)
-    (c .told3 .ensures .1 ∙ ap (λ (f : Seen). set (c .before .before .before .before .before .before .before .before .before .args .t3 .cells) (c .before .before .before .before .before .x10 .given .0 .0) (placeSeen f)) (c .before .mutexes .ensures)))
+    (c .told3 .ensures .1 ∙ ap (λ (f : Seen). set (c .before .before .before .before .before .before .before .before .args .t3 .cells) (c .before .before .before .before .x10 .given .0 .0) (placeSeen f)) (c .before .mutexes .ensures)))
 
 returns-11 : tie.Need-returns-11
 unfolding cellsAfter
 returns-11 c =
-    of-next (MutexWait (c .before .before .before .before .before .before .x11 .given .0 .0) (c .before .before .before .before .before .before .x11 .given .0 .1 .0)) (sym (c .before .before .before .before .before .before .before .before .action .ensures) ∙ c .before .before .before .before .before .before .x11 .given .1)
-    (quiet (c .before .before .before .before .before .before .before .before .before .before .pre) (MutexWait (c .before .before .before .before .before .before .x11 .given .0 .0) (c .before .before .before .before .before .before .x11 .given .0 .1 .0)) (record { ready = c .before .is-seen2 .result; actor = c .told4 .result }) refl (c .before .is-seen2 .ensures ∙ ap isSeen (c .before .before .mutexes2 .ensures))
+    of-next (MutexWait (c .before .before .before .before .before .x11 .given .0 .0) (c .before .before .before .before .before .x11 .given .0 .1 .0)) (sym (c .before .before .before .before .before .before .before .action .ensures) ∙ c .before .before .before .before .before .x11 .given .1)
+    (quiet (c .before .before .before .before .before .before .before .before .before .pre) (MutexWait (c .before .before .before .before .before .x11 .given .0 .0) (c .before .before .before .before .before .x11 .given .0 .1 .0)) (record { ready = c .before .is-seen2 .result; actor = c .told4 .result }) refl (c .before .is-seen2 .ensures ∙ ap isSeen (c .before .before .mutexes2 .ensures))
     (c .told4 .ensures .0)
-    (c .told4 .ensures .1 ∙ ap (λ (f : Seen). set (c .before .before .before .before .before .before .before .before .before .before .args .t3 .cells) (c .before .before .before .before .before .before .x11 .given .0 .0) (placeSeen f)) (c .before .before .mutexes2 .ensures)))
+    (c .told4 .ensures .1 ∙ ap (λ (f : Seen). set (c .before .before .before .before .before .before .before .before .before .args .t3 .cells) (c .before .before .before .before .before .x11 .given .0 .0) (placeSeen f)) (c .before .before .mutexes2 .ensures)))
 
 pub step-spec : {M : Type 1} → statement M
 step-spec =
