@@ -78,19 +78,15 @@ fn trace_of(table: &[u8], schedule: &[u8], names: &mut [u8; 256]) -> Halt
 {
     let mut comms = [0u64; 256];
     let mut log = [0u8; 4096];
-    let mut heads = [0usize; 16];
-    let mut tails = [0usize; 16];
-    let mut entries = [0u8; 64];
-    let mut lens = [0usize; 8];
+    let mut ends = [0usize; 32];
+    let mut queues = [0u8; 72];
     let played = play::play(
         table,
         schedule,
         &mut comms,
         &mut log,
-        &mut heads,
-        &mut tails,
-        &mut entries,
-        &mut lens,
+        &mut ends,
+        &mut queues,
         names,
     );
     played.halt

@@ -68,14 +68,13 @@ module _ (table schedule e b : List ℕ) (r : ℕ) where
       subst (λ (l : List ℕ). Wrote e l b r) right w
 
 -- the end state in arrays can be asked
-pub answerable : {table schedule comms log heads tails entries lens held : List ℕ} {r : Played} → WellFormed table
-    → Ended table schedule comms log heads tails entries lens held r → Answerable table (r .actors) comms entries lens
+pub answerable : {table schedule comms log ends queues held : List ℕ} {r : Played} → WellFormed table
+    → Ended table schedule comms log ends queues held r → Answerable table (r .actors) comms queues
 answerable ok E =
     record {
       accepted = ok;
       actors-long = E .actors-long;
-      comms-long = E .mail-room .comms-long;
-      valued = E .mail-room .valued;
+      comms-room = E .mail-room .comms-room;
       queue-room = E .queue-room;
     }
 

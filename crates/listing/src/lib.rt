@@ -42,27 +42,23 @@ fn write(table: &[u8], schedule: &[u8], out: &mut [u8]) -> usize
     };
     let mut comms = [0u64; 256];
     let mut log = [0u8; 4096];
-    let mut heads = [0usize; 16];
-    let mut tails = [0usize; 16];
-    let mut entries = [0u8; 64];
-    let mut lens = [0usize; 8];
+    let mut ends = [0usize; 32];
+    let mut queues = [0u8; 72];
     let mut names = [0u8; 256];
     let played = play::play(
         table,
         schedule,
         &mut comms,
         &mut log,
-        &mut heads,
-        &mut tails,
-        &mut entries,
-        &mut lens,
+        &mut ends,
+        &mut queues,
         &mut names,
     );
     let halt = played.halt;
     match halt {
         Halt::End => {
             let actors = played.actors;
-            let readiness = readiness::answer(table, actors, &comms, &entries, &lens);
+            let readiness = readiness::answer(table, actors, &comms, &queues);
             let ending = readiness.ending;
             lines::run(&names, schedule.len(), ending, out)
         }

@@ -68,8 +68,8 @@ module _ (table schedule : List ℕ) where
       ap gives (right ∙ ap (readyAnswer table) end) ∙ sym (ap (λ (o : Outcome). answer o (readyAnswer table (endState table schedule))) e)
 
 -- an accepted schedule's end in arrays can be reported and asked
-module _ {table schedule comms log heads tails entries lens names : List ℕ} {r : Played} (ok : WellFormed table)
-    (fine : checkSchedule firstNumbers table schedule ≡ accepted) (E : Ended table schedule comms log heads tails entries lens names r) where
+module _ {table schedule comms log ends queues names : List ℕ} {r : Played} (ok : WellFormed table)
+    (fine : checkSchedule firstNumbers table schedule ≡ accepted) (E : Ended table schedule comms log ends queues names r) where
   all-taken : taken (machine table) initial schedule ≡ true
   all-taken = checks-taken table firstNumbers initial 0 schedule fine
 
@@ -82,13 +82,13 @@ module _ {table schedule comms log heads tails entries lens names : List ℕ} {r
           let few = ok .actions-most a (ltb-true a (actorsOf table) h) in omega arith
       go (inr h) = let none = reached-end table schedule all-taken .absent-still a (ltb-false a (actorsOf table) h) in omega arith
 
-  pub reportable : (buffer : List ℕ) → 2912 ≤ length buffer → Reportable table (r .actors) comms log heads tails entries lens buffer
+  pub reportable : (buffer : List ℕ) → 2912 ≤ length buffer → Reportable table (r .actors) comms log ends queues buffer
   reportable buffer room =
       record {
         accepted = ok;
         positions = position-small;
-        mail = E .mail-room;
-        queues = E .queue-room;
+        mail-room = E .mail-room;
+        queue-room = E .queue-room;
         room =
             let fit = reports-fit table ok in
             let small : length (report table (endState table schedule)) ≤ length buffer = omega (arith, fit .fits schedule all-taken, fit .room) in
@@ -96,18 +96,17 @@ module _ {table schedule comms log heads tails entries lens names : List ℕ} {r
       }
 
   -- no report's length passes 2,912
-  pub report-small : length (report table (siteOf (r .actors) comms log heads tails entries lens)) ≤ 2912
+  pub report-small : length (report table (siteOf (r .actors) comms log ends queues)) ≤ 2912
   report-small =
       let fit = reports-fit table ok in
       let small : length (report table (endState table schedule)) ≤ 2912 = omega (arith, fit .fits schedule all-taken, fit .room) in
       subst (λ (s : Site). length (report table s) ≤ 2912) (sym (E .site)) small
 
-  pub answerable : Answerable table (r .actors) comms entries lens
+  pub answerable : Answerable table (r .actors) comms queues
   answerable =
       record {
         accepted = ok;
         actors-long = E .actors-long;
-        comms-long = E .mail-room .comms-long;
-        valued = E .mail-room .valued;
+        comms-room = E .mail-room .comms-room;
         queue-room = E .queue-room;
       }

@@ -28,37 +28,23 @@ pub fn run(table: &[u8], schedule: &[u8], report: &mut [u8]) -> RunAnswer
     };
     let mut comms = [0u64; 256];
     let mut log = [0u8; 4096];
-    let mut heads = [0usize; 16];
-    let mut tails = [0usize; 16];
-    let mut entries = [0u8; 64];
-    let mut lens = [0usize; 8];
+    let mut ends = [0usize; 32];
+    let mut queues = [0u8; 72];
     let mut names = [0u8; 256];
     let played = play::play(
         table,
         schedule,
         &mut comms,
         &mut log,
-        &mut heads,
-        &mut tails,
-        &mut entries,
-        &mut lens,
+        &mut ends,
+        &mut queues,
         &mut names,
     );
     let halt = played.halt;
     match halt {
         Halt::End => {
             let actors = played.actors;
-            let n = report::write(
-                table,
-                actors,
-                &comms,
-                &log,
-                &heads,
-                &tails,
-                &entries,
-                &lens,
-                report,
-            );
+            let n = report::write(table, actors, &comms, &log, &ends, &queues, report);
             RunAnswer::Written(n as u32)
         }
         Halt::At(stop) => RunAnswer::Refused(Refusal::First(stop)),
@@ -75,27 +61,23 @@ pub fn ready(table: &[u8], schedule: &[u8]) -> ReadyAnswer
     };
     let mut comms = [0u64; 256];
     let mut log = [0u8; 4096];
-    let mut heads = [0usize; 16];
-    let mut tails = [0usize; 16];
-    let mut entries = [0u8; 64];
-    let mut lens = [0usize; 8];
+    let mut ends = [0usize; 32];
+    let mut queues = [0u8; 72];
     let mut names = [0u8; 256];
     let played = play::play(
         table,
         schedule,
         &mut comms,
         &mut log,
-        &mut heads,
-        &mut tails,
-        &mut entries,
-        &mut lens,
+        &mut ends,
+        &mut queues,
         &mut names,
     );
     let halt = played.halt;
     match halt {
         Halt::End => {
             let actors = played.actors;
-            ReadyAnswer::Now(readiness::answer(table, actors, &comms, &entries, &lens))
+            ReadyAnswer::Now(readiness::answer(table, actors, &comms, &queues))
         }
         Halt::At(stop) => ReadyAnswer::Refused(Refusal::First(stop)),
     }

@@ -43,13 +43,11 @@ returns c =
 play-requires : tie.Need-play-requires
 play-requires c κs =
     record {
-      accepted = c .before .before .before .before .before .before .before .before .before .read .ensures .1 (c .before .before .before .before .before .before .before .enum-told .given .1);
+      accepted = c .before .before .before .before .before .before .before .read .ensures .1 (c .before .before .before .before .before .enum-told .given .1);
       comms-fresh = refl;
       log-fresh = refl;
-      heads-fresh = refl;
-      tails-fresh = refl;
-      entries-fresh = refl;
-      lens-fresh = refl;
+      ends-fresh = refl;
+      queues-fresh = refl;
       names-long = refl;
     }
 
@@ -58,12 +56,12 @@ enum-told-2 c = search needs
 
 answer-requires : tie.Need-answer-requires
 answer-requires c κs =
-    answerable (c .before .before .before .before .before .before .before .before .before .before .before .before .before .before .before .before .read .ensures .1 (c .before .before .before .before .before .before .before .before .before .before .before .before .before .before .enum-told .given .1)) (c .before .before .before .before .before .before .play .ensures .ended (c .before .before .before .before .enum-told2 .given .1))
+    answerable (c .before .before .before .before .before .before .before .before .before .before .before .before .before .read .ensures .1 (c .before .before .before .before .before .before .before .before .before .before .before .enum-told .given .1)) (c .before .before .before .before .before .play .ensures .ended (c .before .before .before .enum-told2 .given .1))
 
 run-requires : tie.Need-run-requires
 run-requires c κs =
-    let s = c .before .before .before .before .before .before .before .before .before .before .before .before .before .before .before .before .before .before .before .before .before .before .before in
-    let end = c .before .before .before .before .before .before .before .before .before .play .ensures .ended (c .before .before .before .before .before .before .before .enum-told2 .given .1) in
+    let s = c .before .before .before .before .before .before .before .before .before .before .before .before .before .before .before .before .before .before .before .before in
+    let end = c .before .before .before .before .before .before .before .before .play .ensures .ended (c .before .before .before .before .before .before .enum-told2 .given .1) in
     (held-long (s .args .table .now) (s .args .schedule .now) _ (end .names-right), end .entries-most, s .pre)
 
 enum-known-halt : tie.Need-enum-known-halt
@@ -83,14 +81,14 @@ same-length-2 c = search needs
 
 returns-2 : tie.Need-returns-2
 returns-2 c =
-    let s = c .before .before .before .before .before .before .before .before .before .before .before .before .before .before .before .before .before .before .before .before .before .before .before .before .before .before in
-    let p = c .before .before .before .before .before .before .before .before .before .before .before .before .play in
-    let end = p .ensures .ended (c .before .before .before .before .before .before .before .before .before .before .enum-told2 .given .1) in
+    let s = c .before .before .before .before .before .before .before .before .before .before .before .before .before .before .before .before .before .before .before .before .before .before .before in
+    let p = c .before .before .before .before .before .before .before .before .before .before .before .play in
+    let end = p .ensures .ended (c .before .before .before .before .before .before .before .before .before .enum-told2 .given .1) in
     let w = c .before .before .run in (
-      wrote-run (s .args .table .now) (s .args .schedule .now) (s .args .out .now) (w .last .1 .1 .1 .0) (w .result) (p .last .1 .1 .1 .1 .1 .1 .1 .1 .0) (c .before .before .before .before .before .answer .result)
-          (then-accepted (readOf (s .args .table .now)) (checkSchedule firstNumbers (s .args .table .now) (s .args .schedule .now)) (sym (c .before .before .before .before .before .before .before .before .before .before .before .before .before .before .before .before .before .before .before .before .before .before .read .ensures .0) ∙ ap outcome (c .before .before .before .before .before .before .before .before .before .before .before .before .before .before .before .before .before .before .before .before .enum-told .given .1)) (sym (p .ensures .halted firstNumbers) ∙ ap (haltOf firstNumbers) (c .before .before .before .before .before .before .before .before .before .before .enum-told2 .given .1)))
+      wrote-run (s .args .table .now) (s .args .schedule .now) (s .args .out .now) (w .last .1 .1 .1 .0) (w .result) (p .last .1 .1 .1 .1 .1 .1 .0) (c .before .before .before .before .before .answer .result)
+          (then-accepted (readOf (s .args .table .now)) (checkSchedule firstNumbers (s .args .table .now) (s .args .schedule .now)) (sym (c .before .before .before .before .before .before .before .before .before .before .before .before .before .before .before .before .before .before .before .read .ensures .0) ∙ ap outcome (c .before .before .before .before .before .before .before .before .before .before .before .before .before .before .before .before .before .enum-told .given .1)) (sym (p .ensures .halted firstNumbers) ∙ ap (haltOf firstNumbers) (c .before .before .before .before .before .before .before .before .before .enum-told2 .given .1)))
           (end .names-right)
-          (c .before .before .before .before .before .answer .ensures (p .last .1 .1 .1 .0) (p .last .1 .1 .1 .1 .0) (p .last .1 .1 .1 .1 .1 .0) ∙ ap (readyAnswer (s .args .table .now)) (end .site))
+          (c .before .before .before .before .before .answer .ensures (p .last .1 .1 .1 .0) (p .last .1 .1 .1 .1 .0) ∙ ap (readyAnswer (s .args .table .now)) (end .site))
           (w .ensures .0),
       w .ensures .1,
     )
@@ -100,12 +98,12 @@ same-length-3 c = search needs
 
 returns-3 : tie.Need-returns-3
 returns-3 c =
-    let s = c .before .before .before .before .before .before .before .before .before .before .before .before .before .before .before .before .before .before .before .before .before .before .before in
+    let s = c .before .before .before .before .before .before .before .before .before .before .before .before .before .before .before .before .before .before .before .before .before in
     let p = c .before .before .before .before .before .before .before .before .before .play in
     let w = c .before .before .refused2 in
     let stop = c .before .before .before .before .before .before .before .halt .given .0 .0 in
     wrote-refusal (s .args .table .now) (s .args .schedule .now) (s .args .out .now) (w .last .1 .1 .0) (w .result) (c .before .before .before .before .before .first-number .result) (c .before .before .before .before .position2 .result)
-    (then-accepted (readOf (s .args .table .now)) (checkSchedule firstNumbers (s .args .table .now) (s .args .schedule .now)) (sym (c .before .before .before .before .before .before .before .before .before .before .before .before .before .before .before .before .before .before .before .read .ensures .0) ∙ ap outcome (c .before .before .before .before .before .before .before .before .before .before .before .before .before .before .before .before .before .enum-told .given .1)) (sym (p .ensures .halted firstNumbers) ∙ ap (haltOf firstNumbers) (c .before .before .before .before .before .before .before .halt .given .1) ∙ stop-refused firstNumbers stop))
+    (then-accepted (readOf (s .args .table .now)) (checkSchedule firstNumbers (s .args .table .now) (s .args .schedule .now)) (sym (c .before .before .before .before .before .before .before .before .before .before .before .before .before .before .before .before .before .read .ensures .0) ∙ ap outcome (c .before .before .before .before .before .before .before .before .before .before .before .before .before .before .before .enum-told .given .1)) (sym (p .ensures .halted firstNumbers) ∙ ap (haltOf firstNumbers) (c .before .before .before .before .before .before .before .halt .given .1) ∙ stop-refused firstNumbers stop))
     (c .before .before .before .before .before .first-number .ensures) (c .before .before .before .before .position2 .ensures .0) (w .ensures)
 
 pub write-spec : {M : Type 1} → statement M

@@ -27,13 +27,11 @@ returns c =
 play-requires : tie.Need-play-requires
 play-requires c κs =
     record {
-      accepted = c .before .before .before .before .before .before .before .before .before .read .ensures .1 (c .before .before .before .before .before .before .before .enum-told .given .1);
+      accepted = c .before .before .before .before .before .before .before .read .ensures .1 (c .before .before .before .before .before .enum-told .given .1);
       comms-fresh = refl;
       log-fresh = refl;
-      heads-fresh = refl;
-      tails-fresh = refl;
-      entries-fresh = refl;
-      lens-fresh = refl;
+      ends-fresh = refl;
+      queues-fresh = refl;
       names-long = refl;
     }
 
@@ -42,19 +40,19 @@ enum-told-2 c = search needs
 
 answer-requires : tie.Need-answer-requires
 answer-requires c κs =
-    answerable (c .before .before .before .before .before .before .before .before .before .before .before .before .before .before .before .before .read .ensures .1 (c .before .before .before .before .before .before .before .before .before .before .before .before .before .before .enum-told .given .1)) (sym (c .before .before .before .before .before .before .play .ensures .halted firstNumbers) ∙ ap (haltOf firstNumbers) (c .before .before .before .before .enum-told2 .given .1)) (c .before .before .before .before .before .before .play .ensures .ended (c .before .before .before .before .enum-told2 .given .1))
+    answerable (c .before .before .before .before .before .before .before .before .before .before .before .before .before .read .ensures .1 (c .before .before .before .before .before .before .before .before .before .before .before .enum-told .given .1)) (sym (c .before .before .before .before .before .play .ensures .halted firstNumbers) ∙ ap (haltOf firstNumbers) (c .before .before .before .enum-told2 .given .1)) (c .before .before .before .before .before .play .ensures .ended (c .before .before .before .enum-told2 .given .1))
 
 enum-known-halt : tie.Need-enum-known-halt
 enum-known-halt c = search needs
 
 returns-2 : tie.Need-returns-2
 returns-2 c =
-    ready-given (c .before .before .before .before .before .before .before .before .before .before .before .before .before .before .before .before .before .before .before .before .args .table .now) (c .before .before .before .before .before .before .before .before .before .before .before .before .before .before .before .before .before .before .before .before .args .schedule .now) _ _ ((c .before .before .before .before .before .before .before .play .ensures .ended (c .before .before .before .before .before .enum-told2 .given .1)) .site) (then-accepted (readOf (c .before .before .before .before .before .before .before .before .before .before .before .before .before .before .before .before .before .before .before .before .args .table .now)) (checkSchedule firstNumbers (c .before .before .before .before .before .before .before .before .before .before .before .before .before .before .before .before .before .before .before .before .args .table .now) (c .before .before .before .before .before .before .before .before .before .before .before .before .before .before .before .before .before .before .before .before .args .schedule .now)) (sym (c .before .before .before .before .before .before .before .before .before .before .before .before .before .before .before .before .before .read .ensures .0) ∙ ap outcome (c .before .before .before .before .before .before .before .before .before .before .before .before .before .before .before .enum-told .given .1)) ∙ (sym (c .before .before .before .before .before .before .before .play .ensures .halted firstNumbers) ∙ ap (haltOf firstNumbers) (c .before .before .before .before .before .enum-told2 .given .1)))
-    (c .answer .ensures (c .before .before .before .before .before .before .before .play .last .1 .1 .1 .0) (c .before .before .before .before .before .before .before .play .last .1 .1 .1 .1 .0) (c .before .before .before .before .before .before .before .play .last .1 .1 .1 .1 .1 .0))
+    ready-given (c .before .before .before .before .before .before .before .before .before .before .before .before .before .before .before .before .before .args .table .now) (c .before .before .before .before .before .before .before .before .before .before .before .before .before .before .before .before .before .args .schedule .now) _ _ ((c .before .before .before .before .before .before .play .ensures .ended (c .before .before .before .before .enum-told2 .given .1)) .site) (then-accepted (readOf (c .before .before .before .before .before .before .before .before .before .before .before .before .before .before .before .before .before .args .table .now)) (checkSchedule firstNumbers (c .before .before .before .before .before .before .before .before .before .before .before .before .before .before .before .before .before .args .table .now) (c .before .before .before .before .before .before .before .before .before .before .before .before .before .before .before .before .before .args .schedule .now)) (sym (c .before .before .before .before .before .before .before .before .before .before .before .before .before .before .read .ensures .0) ∙ ap outcome (c .before .before .before .before .before .before .before .before .before .before .before .before .enum-told .given .1)) ∙ (sym (c .before .before .before .before .before .before .play .ensures .halted firstNumbers) ∙ ap (haltOf firstNumbers) (c .before .before .before .before .enum-told2 .given .1)))
+    (c .answer .ensures (c .before .before .before .before .before .before .play .last .1 .1 .1 .0) (c .before .before .before .before .before .before .play .last .1 .1 .1 .1 .0))
 
 returns-3 : tie.Need-returns-3
 returns-3 c =
-    ready-refused (c .before .before .before .before .before .before .before .before .before .before .before .before .before .before .before .before .args .table .now) (c .before .before .before .before .before .before .before .before .before .before .before .before .before .before .before .before .args .schedule .now) _ _ (then-accepted (readOf (c .before .before .before .before .before .before .before .before .before .before .before .before .before .before .before .before .args .table .now)) (checkSchedule firstNumbers (c .before .before .before .before .before .before .before .before .before .before .before .before .before .before .before .before .args .table .now) (c .before .before .before .before .before .before .before .before .before .before .before .before .before .before .before .before .args .schedule .now)) (sym (c .before .before .before .before .before .before .before .before .before .before .before .before .before .read .ensures .0) ∙ ap outcome (c .before .before .before .before .before .before .before .before .before .before .before .enum-told .given .1)) ∙ (sym (c .before .before .before .play .ensures .halted firstNumbers) ∙ ap (haltOf firstNumbers) (c .before .halt .given .1) ∙ stop-refused firstNumbers (c .before .halt .given .0 .0)))
+    ready-refused (c .before .before .before .before .before .before .before .before .before .before .before .before .before .before .args .table .now) (c .before .before .before .before .before .before .before .before .before .before .before .before .before .before .args .schedule .now) _ _ (then-accepted (readOf (c .before .before .before .before .before .before .before .before .before .before .before .before .before .before .args .table .now)) (checkSchedule firstNumbers (c .before .before .before .before .before .before .before .before .before .before .before .before .before .before .args .table .now) (c .before .before .before .before .before .before .before .before .before .before .before .before .before .before .args .schedule .now)) (sym (c .before .before .before .before .before .before .before .before .before .before .before .read .ensures .0) ∙ ap outcome (c .before .before .before .before .before .before .before .before .before .enum-told .given .1)) ∙ (sym (c .before .before .before .play .ensures .halted firstNumbers) ∙ ap (haltOf firstNumbers) (c .before .halt .given .1) ∙ stop-refused firstNumbers (c .before .halt .given .0 .0)))
 
 pub ready-spec : {M : Type 1} → statement M
 ready-spec =
