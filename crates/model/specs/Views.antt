@@ -35,9 +35,12 @@ pub record View : Type 0 where
   -- the cells after the value of this communication was picked up: only a Receive's changes them
   pub picked : (value : ℕ) (cells : List ℕ) → List ℕ
 
--- a step that posts and does nothing else, and one that looks
+-- a step that posts and does nothing else; one that posts to a port; one that looks
 abbrev pub posting : Post → View
 posting post = record { post = post; look = blind; waiting = false; sent = λ cells. 0; picked = λ value cells. cells }
+
+abbrev pub mailTo : Port → (List ℕ → ℕ) → (ℕ → List ℕ → List ℕ) → View
+mailTo port sent picked = record { post = mails port; look = blind; waiting = false; sent = sent; picked = picked }
 
 abbrev pub looking : Look → Bool → View
 looking look waiting = record { post = silent; look = look; waiting = waiting; sent = λ cells. 0; picked = λ value cells. cells }
@@ -46,10 +49,8 @@ abbrev pub viewOf : Action → View
 viewOf (Set cell value) = posting silent
 viewOf (Add cell other) = posting silent
 viewOf (Lesser cell other) = posting silent
-viewOf (Send mailbox cell) =
-    record { post = mails (record { mailbox = mailbox; side = sends }); look = blind; waiting = false; sent = λ cells. getD cells cell 0; picked = λ value cells. cells }
-viewOf (Receive mailbox cell) =
-    record { post = mails (record { mailbox = mailbox; side = receives }); look = blind; waiting = false; sent = λ cells. 0; picked = λ value cells. set cells cell value }
+viewOf (Send mailbox cell) = mailTo (record { mailbox = mailbox; side = sends }) (λ cells. getD cells cell 0) (λ value cells. cells)
+viewOf (Receive mailbox cell) = mailTo (record { mailbox = mailbox; side = receives }) (λ cells. 0) (λ value cells. set cells cell value)
 viewOf (TestAny result list) = looking (communications (listed list)) false
 viewOf (WaitAny result list) = looking (communications (listed list)) true
 viewOf (Lock mutex) = posting (joins mutex)
