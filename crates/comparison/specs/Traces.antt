@@ -11,7 +11,7 @@ use Rattle.trace.specs.Schedule.{names}
 use Rattle.model.specs.Site.{initial}
 use Rattle.model.specs.Schedule.{machine, RefusalNumbers, firstNumbers, secondNumbers, checkSchedule}
 use Rattle.model.specs.Calls.{sameOf}
-use Rattle.play.specs.PlayParts.{haltOf}
+use Rattle.play.specs.Parts.{haltOf}
 use Rattle.play.specs.declared.Halt.{Halt}
 use Rattle.play.specs.declared.Halt.the-variants.{End}
 use Rattle.names.specs.Names.{namesIn}

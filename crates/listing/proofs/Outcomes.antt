@@ -19,9 +19,9 @@ use Rattle.model.specs.Calls.{readyChecks}
 use Rattle.model.specs.Listing.{line, endText, refusedText, stepLines, runLines, linesOf, listingOf, tableRead, scheduleRead}
 use Rattle.model.proofs.Beginnings.{beginnings-decide}
 use Rattle.names.specs.InByte.{nameOf}
-use Rattle.play.specs.PlayParts.{Ended}
+use Rattle.play.specs.Parts.{Ended}
 use Rattle.answers.specs.Answers.{endingAs, readinessOf}
-use Rattle.readiness.specs.ReadyParts.{Answerable}
+use Rattle.readiness.specs.Parts.{Answerable}
 use Rattle.writing.specs.Written.{Wrote}
 use Rattle.play.specs.declared.Played.{Played}
 use Rattle.answers.specs.declared.Readiness.{Readiness}

@@ -1,5 +1,5 @@
 -- A look at a list, place by place.
-pub mod LookPlaces
-pub mod LookFound
-pub mod LookCode
-pub mod LookParts
+pub mod Places
+pub mod Found
+pub mod Code
+pub mod Sees

@@ -1,2 +1,2 @@
 -- What a step sees, in arrays and in the model.
-pub mod LookParts
+pub mod Parts

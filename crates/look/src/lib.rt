@@ -8,7 +8,7 @@ ghost use Rattle.table.specs.Promise.{number as numberAt};
 ghost use Rattle.model.specs.Views.{listed};
 ghost use Rattle.model.specs.Local.{unseen, isSeen};
 ghost use Rattle.state.specs.State.{CommsRoom, QueueRoom};
-ghost use Rattle.look.specs.LookParts.{seenOf, communicationsSeen, mutexesSeen};
+ghost use Rattle.look.specs.Parts.{seenOf, communicationsSeen, mutexesSeen};
 
 // Nothing; or the first place in the list, counted from 1, with the number listed there and the value of that communication (0 for a mutex).
 pub enum Seen {

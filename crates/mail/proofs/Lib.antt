@@ -1,6 +1,6 @@
 -- The mail in arrays and in the model.
-pub mod MailChanges
-pub mod MailComms
-pub mod MailEnds
-pub mod MailQueues
-pub mod MailMeets
+pub mod Changes
+pub mod Comms
+pub mod Ends
+pub mod Queues
+pub mod Meets

@@ -1,2 +1,2 @@
 -- What the mail's functions do to the arrays.
-pub mod MailParts
+pub mod Parts

@@ -6,7 +6,7 @@ ghost use lib.ListN.{length, set};
 ghost use Rattle.model.specs.Mail.{carried as carriedBy};
 ghost use Rattle.names.specs.InByte.{nameOf};
 ghost use Rattle.state.specs.State.{commOf, headIn, tailIn, MailRoom};
-ghost use Rattle.mail.specs.MailParts.{sendsAt, receivesAt, pendingCode, paired, oldestIn, appended, headOn, tailOn, Posted};
+ghost use Rattle.mail.specs.Parts.{sendsAt, receivesAt, pendingCode, paired, oldestIn, appended, headOn, tailOn, Posted};
 use table::bytes;
 
 // A Send of a value by the step `me` to mailbox m.

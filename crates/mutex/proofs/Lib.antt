@@ -1,6 +1,6 @@
 -- The queues in arrays and in the model.
-pub mod MutexScan
-pub mod MutexCompact
-pub mod MutexQueue
-pub mod MutexOwner
-pub mod MutexSteps
+pub mod Scan
+pub mod Compacting
+pub mod Queues
+pub mod Owning
+pub mod Steps

@@ -1,2 +1,2 @@
 -- What the parts of a mutex's step promise one another.
-pub mod MutexParts
+pub mod Parts

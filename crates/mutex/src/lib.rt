@@ -7,7 +7,7 @@ ghost use Rattle.trace.specs.Order.{has};
 ghost use Rattle.model.specs.Site.{upd};
 ghost use Rattle.model.specs.Mutex.{owns, join as joined, leave as left};
 ghost use Rattle.state.specs.State.{queuesOf, QueueRoom};
-ghost use Rattle.mutex.specs.MutexParts.{Compacted};
+ghost use Rattle.mutex.specs.Parts.{Compacted};
 use table::bytes;
 
 // Lock: an actor that is not queued yet joins the end.

@@ -24,9 +24,9 @@ use Rattle.model.proofs.Checks.{checks-taken}
 use Rattle.model.proofs.Reached.{reached-end}
 use Rattle.model.proofs.ReportBound.{reports-fit}
 use Rattle.state.specs.State.{recordsOf, siteOf}
-use Rattle.play.specs.PlayParts.{Ended}
-use Rattle.readiness.specs.ReadyParts.{Answerable}
-use Rattle.report.specs.ReportParts.{Reportable}
+use Rattle.play.specs.Parts.{Ended}
+use Rattle.readiness.specs.Parts.{Answerable}
+use Rattle.report.specs.Parts.{Reportable}
 use Rattle.play.specs.declared.Played.{Played}
 
 module _ (table schedule buffer : List ℕ) where

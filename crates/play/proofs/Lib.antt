@@ -1,6 +1,6 @@
 -- A schedule, entry by entry.
 pub mod Prefix
 pub mod Playing
-pub mod PlayNext
-pub mod PlayEnds
-pub mod PlayStep
+pub mod Next
+pub mod Ends
+pub mod Entry

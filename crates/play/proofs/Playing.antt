@@ -38,7 +38,7 @@ use Rattle.model.proofs.ReportBoundLengths.{stepped-actor}
 use Rattle.model.proofs.ReportBound.{entries-room}
 use Rattle.names.specs.InByte.{nameOf}
 use Rattle.state.specs.State.{recordOf, recordsOf, freshActor, tailIn, mailOf, queuesOf, siteOf, MailRoom, QueueRoom, EightCells, nextOf, seenFrom}
-use Rattle.step.specs.StepParts.{Steppable, StepTaken, Took}
+use Rattle.step.specs.Parts.{Steppable, StepTaken, Took}
 use Rattle.state.specs.declared.Actor.{Actor}
 use Rattle.step.specs.declared.Stepped.{Stepped}
 use Rattle.names.proofs.InByte.{name-byte}

@@ -1,2 +1,2 @@
 -- What running a schedule takes and leaves.
-pub mod PlayParts
+pub mod Parts

@@ -1,2 +1,2 @@
 -- Readiness over the arrays.
-pub mod ReadyLaws
+pub mod Laws

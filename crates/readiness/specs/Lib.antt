@@ -1,2 +1,2 @@
 -- The ready answer's parts over the arrays.
-pub mod ReadyParts
+pub mod Parts

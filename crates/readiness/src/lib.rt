@@ -5,7 +5,7 @@ ghost use mathlib.Core.List.{List};
 ghost use lib.ListN.{length};
 ghost use Rattle.table.specs.Format.{actorsOf};
 ghost use Rattle.model.specs.Ready.{bit as asBit, readyMask, readyAnswer};
-ghost use Rattle.readiness.specs.ReadyParts.{Answerable, Looked, looksReady, everyoneFinished, siteWith};
+ghost use Rattle.readiness.specs.Parts.{Answerable, Looked, looksReady, everyoneFinished, siteWith};
 ghost use Rattle.answers.specs.Answers.{readinessOf};
 use answers::Ending;
 use answers::Readiness;

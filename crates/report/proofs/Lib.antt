@@ -1,6 +1,6 @@
 -- The report's bytes, from the arrays.
-pub mod ReportActors
-pub mod ReportComms
-pub mod ReportLists
-pub mod ReportBoxes
-pub mod ReportMutexes
+pub mod Actors
+pub mod Comms
+pub mod Lists
+pub mod Boxes
+pub mod Mutexes

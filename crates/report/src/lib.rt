@@ -8,7 +8,7 @@ ghost use Rattle.table.specs.Format.{countOf};
 ghost use Rattle.model.specs.Report.{long, parts, actorBytes, commBytes, boxBytes, mutexBytes, report};
 ghost use Rattle.state.specs.State.{recordOf, commOf, headIn, tailIn, queuesOf, siteOf, CommsRoom, LogRoom, QueueRoom};
 ghost use Rattle.writing.specs.Written.{Wrote};
-ghost use Rattle.report.specs.ReportParts.{actorsBytes, ownBytes, actionsBytes, stepsBytes, portBytes, queueOf, boxesBytes, mutexesBytes, Positions, Reportable};
+ghost use Rattle.report.specs.Parts.{actorsBytes, ownBytes, actionsBytes, stepsBytes, portBytes, queueOf, boxesBytes, mutexesBytes, Positions, Reportable};
 use state::Actor;
 use table::access;
 use table::bytes;

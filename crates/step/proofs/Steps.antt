@@ -18,8 +18,8 @@ use Rattle.model.specs.Views.{pickUp}
 use Rattle.model.specs.Local.{Seen, unseen, seen, pickUpSeen, cellsAfter, local}
 use Rattle.state.specs.State.{recordOf, nextOf}
 use Rattle.names.specs.InByte.{nameOf}
-use Rattle.step.specs.StepParts.{Steppable}
-use Rattle.look.specs.LookParts.{seenOf}
+use Rattle.step.specs.Parts.{Steppable}
+use Rattle.look.specs.Parts.{seenOf}
 use Rattle.state.specs.declared.Actor.{Actor}
 use Rattle.look.specs.declared.Seen.the-variants as look
 

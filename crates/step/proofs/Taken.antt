@@ -21,7 +21,7 @@ use Rattle.model.specs.Local.{Seen, unseen, seen, first, see, pickUpSeen, cells
 use Rattle.model.specs.Step.{passes}
 use Rattle.names.specs.InByte.{nameOf}
 use Rattle.state.specs.State.{recordOf, tailIn, mailOf, queuesOf, MailRoom, QueueRoom, nextOf, seenFrom}
-use Rattle.step.specs.StepParts.{Steppable, Took, StepTaken, Picks, SmallPlace}
+use Rattle.step.specs.Parts.{Steppable, Took, StepTaken, Picks, SmallPlace}
 use Rattle.state.specs.declared.Actor.{Actor}
 use Rattle.step.specs.declared.Stepped.{Stepped}
 use Rattle.names.proofs.InByte.{name-byte}

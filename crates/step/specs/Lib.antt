@@ -1,2 +1,2 @@
 -- What one step takes and leaves.
-pub mod StepParts
+pub mod Parts

@@ -6,7 +6,7 @@ use Rattle.table.specs.Read.{readOf}
 use Rattle.table.specs.Answer.{outcome}
 use Rattle.table.proofs.Readings.{refusing}
 use Rattle.model.specs.Schedule.{firstNumbers}
-use Rattle.play.specs.PlayParts.{haltOf}
+use Rattle.play.specs.Parts.{haltOf}
 use Rattle.table.proofs.Checks.{then-refused}
 use Rattle.answers.proofs.Stops.{stop-refused}
 use Rattle.comparison.proofs.SameOutcomes.{compared-refused, first-refused}

@@ -2,7 +2,7 @@
 -- Assumes nothing.
 use mathlib.Core.Path.{_≡_, refl, _∙_, ap, sym}
 use Rattle.model.specs.Schedule.{secondNumbers}
-use Rattle.play.specs.PlayParts.{haltOf}
+use Rattle.play.specs.Parts.{haltOf}
 use Rattle.answers.proofs.Stops.{stop-refused}
 use Rattle.comparison.proofs.SameOutcomes.{second-refused}
 use borrow.Author.Needs.{needs}

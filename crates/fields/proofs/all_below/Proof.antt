@@ -1,4 +1,4 @@
--- `table::fields::all_below` meets its contract. The loop's invariant: the checks from i on are as good as all of them.
+-- `fields::all_below` meets its contract. The loop's invariant: the checks from i on are as good as all of them.
 -- Assumes nothing.
 use Prim.Native.Nat.{ℕ, _-_, _≤_}
 use mathlib.Core.Path.{_≡_, _∙_, sym}

@@ -1,4 +1,4 @@
--- `table::fields::blank` meets its contract: the bytes after a list are 0 exactly when the four as one number lie under a power of 256.
+-- `fields::blank` meets its contract: the bytes after a list are 0 exactly when the four as one number lie under a power of 256.
 -- Assumes nothing.
 use mathlib.Core.Path.{_∙_, ap₂}
 use Prim.Native.Nat.{ℕ}

@@ -1,4 +1,4 @@
--- `table::fields::check` meets its contract: what is plainly right is accepted, and the rest is looked at by kind.
+-- `fields::check` meets its contract: what is plainly right is accepted, and the rest is looked at by kind.
 -- Assumes nothing.
 use mathlib.Core.Path.{sym, subst}
 use mathlib.Core.List.{List}

@@ -1,4 +1,4 @@
--- `table::fields::exact` meets its contract: the kind says which form's checks the answer is to be.
+-- `fields::exact` meets its contract: the kind says which form's checks the answer is to be.
 -- Assumes nothing.
 use mathlib.Core.Path.{_≡_, refl, _∙_, ap, sym}
 use Prim.Native.Nat.{ℕ, _≤_}

@@ -1,4 +1,4 @@
--- `table::fields::lone` meets its contract: at each answer the tests on the way say how `loneOf` goes.
+-- `fields::lone` meets its contract: at each answer the tests on the way say how `loneOf` goes.
 -- Assumes nothing.
 use borrow.Author.Needs.{needs}
 use borrow.Author.Tests.{eq-eqb, ne-eqb}

@@ -1,4 +1,4 @@
--- `table::fields::mutex_any` meets its contract: each answer is one way through the tests of an action with a list.
+-- `fields::mutex_any` meets its contract: each answer is one way through the tests of an action with a list.
 -- `w` is the place at which z is read.
 -- Assumes nothing.
 use borrow.Author.Needs.{needs}

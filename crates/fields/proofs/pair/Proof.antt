@@ -1,4 +1,4 @@
--- `table::fields::pair` meets its contract: at each answer the tests on the way say how `twoFieldsOf` goes.
+-- `fields::pair` meets its contract: at each answer the tests on the way say how `twoFieldsOf` goes.
 -- Assumes nothing.
 use borrow.Author.Needs.{needs}
 use borrow.Author.Tests.{le-ltb, lt-ltb, eq-eqb, ne-eqb}

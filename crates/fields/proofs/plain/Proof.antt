@@ -1,4 +1,4 @@
--- `table::fields::plain` meets its contract: each test that was passed is a part of what it promises.
+-- `fields::plain` meets its contract: each test that was passed is a part of what it promises.
 -- Assumes nothing.
 use mathlib.Core.Path.{subst, subst₂}
 use mathlib.Core.Bool.{false≢true}

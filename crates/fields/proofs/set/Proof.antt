@@ -1,4 +1,4 @@
--- `table::fields::set` meets its contract: at each answer the tests on the way say how `fieldsOf` goes at the form of a Set.
+-- `fields::set` meets its contract: at each answer the tests on the way say how `fieldsOf` goes at the form of a Set.
 -- Assumes nothing.
 use borrow.Author.Needs.{needs}
 use borrow.Author.Tests.{le-ltb, lt-ltb, eq-eqb, ne-eqb}

@@ -1,6 +1,6 @@
 -- `listing::write` meets its contract: the checks are the reader's and the schedule's, and the lines are those of the steps run and of the ending.
 -- Assumes nothing.
-use Rattle.play.specs.PlayParts.{haltOf}
+use Rattle.play.specs.Parts.{haltOf}
 use Rattle.listing.proofs.Outcomes.{then-refused, then-accepted, wrote-refusal, wrote-run, answerable, held-long}
 use Rattle.model.specs.Ready.{readyAnswer}
 use Rattle.model.specs.Schedule.{firstNumbers, checkSchedule}

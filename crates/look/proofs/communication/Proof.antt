@@ -1,4 +1,4 @@
--- `engine::look::communication` meets its contract.
+-- `look::communication` meets its contract.
 -- Assumes nothing.
 use Prim.Native.Nat.{_+_, _*_}
 use mathlib.Core.Path.{_∙_, ap, sym}
@@ -6,9 +6,9 @@ use mathlib.Core.List.{[], _∷_}
 use native.Mathlib.Omega.{arith}
 use borrow.Author.Needs.{needs}
 use Rattle.model.specs.Local.{seen}
-use Rattle.look.specs.LookParts.{communicationsSeen, doneIn, valueIn}
-use Rattle.look.proofs.LookPlaces.{beyond, passed, failed}
-use Rattle.look.proofs.LookCode.{open-still, done-now, value-now}
+use Rattle.look.specs.Parts.{communicationsSeen, doneIn, valueIn}
+use Rattle.look.proofs.Places.{beyond, passed, failed}
+use Rattle.look.proofs.Code.{open-still, done-now, value-now}
 use Rattle.look.proofs.communication.Statement.{statement}
 use Rattle.look.proofs.communication.Tie as tie
 

@@ -1,8 +1,8 @@
--- `engine::look::communications` meets its contract: each place's look, in turn.
+-- `look::communications` meets its contract: each place's look, in turn.
 -- Assumes nothing.
 use borrow.Author.Needs.{needs}
-use Rattle.look.specs.LookParts.{doneIn, valueIn}
-use Rattle.look.proofs.LookFound.{first-answers, second-answers, third-answers, fourth-answers}
+use Rattle.look.specs.Parts.{doneIn, valueIn}
+use Rattle.look.proofs.Found.{first-answers, second-answers, third-answers, fourth-answers}
 use Rattle.look.proofs.communications.Statement.{statement}
 use Rattle.look.proofs.communications.Tie as tie
 

@@ -1,8 +1,8 @@
--- `engine::look::mutexes` meets its contract: each place's look, in turn.
+-- `look::mutexes` meets its contract: each place's look, in turn.
 -- Assumes nothing.
 use borrow.Author.Needs.{needs}
-use Rattle.look.specs.LookParts.{ownedIn}
-use Rattle.look.proofs.LookFound.{first-answers, second-answers, third-answers, fourth-answers}
+use Rattle.look.specs.Parts.{ownedIn}
+use Rattle.look.proofs.Found.{first-answers, second-answers, third-answers, fourth-answers}
 use Rattle.look.proofs.mutexes.Statement.{statement}
 use Rattle.look.proofs.mutexes.Tie as tie
 

@@ -1,9 +1,9 @@
--- `engine::look::owned` meets its contract.
+-- `look::owned` meets its contract.
 -- Assumes nothing.
 use mathlib.Core.Path.{_∙_, sym}
 use mathlib.Core.List.{[], _∷_}
-use Rattle.look.specs.LookParts.{mutexesSeen, ownedIn}
-use Rattle.look.proofs.LookPlaces.{beyond, passed, failed}
+use Rattle.look.specs.Parts.{mutexesSeen, ownedIn}
+use Rattle.look.proofs.Places.{beyond, passed, failed}
 use Rattle.look.proofs.owned.Statement.{statement}
 use Rattle.look.proofs.owned.Tie as tie
 

@@ -1,8 +1,8 @@
--- `engine::mail::carried` meets its contract: the number's mark decides, as in `commOf`.
+-- `mail::carried` meets its contract: the number's mark decides, as in `commOf`.
 -- Assumes nothing.
 use mathlib.Core.Path.{sym}
 use borrow.Author.Needs.{needs}
-use Rattle.mail.proofs.MailComms.{carried-none, carried-some}
+use Rattle.mail.proofs.Comms.{carried-none, carried-some}
 use Rattle.mail.proofs.carried.Statement.{statement}
 use Rattle.mail.proofs.carried.Tie as tie
 

@@ -1,10 +1,10 @@
--- `engine::mail::receive` meets its contract: what it does to the arrays is the model's `meet` (`MailMeets`).
+-- `mail::receive` meets its contract: what it does to the arrays is the model's `meet` (`MailMeets`).
 -- Assumes nothing.
 use Prim.Native.Nat.{_+_, _*_}
 use native.Mathlib.Omega.{arith}
 use borrow.Author.Needs.{needs}
-use Rattle.mail.specs.MailParts.{receivesAt}
-use Rattle.mail.proofs.MailMeets.{join-posted, pair-posted}
+use Rattle.mail.specs.Parts.{receivesAt}
+use Rattle.mail.proofs.Meets.{join-posted, pair-posted}
 use Rattle.mail.proofs.receive.Statement.{statement}
 use Rattle.mail.proofs.receive.Tie as tie
 

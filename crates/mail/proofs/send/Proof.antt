@@ -1,11 +1,11 @@
--- `engine::mail::send` meets its contract: what it does to the arrays is the model's `meet` (`MailMeets`).
+-- `mail::send` meets its contract: what it does to the arrays is the model's `meet` (`MailMeets`).
 -- Assumes nothing.
 use Prim.Native.Nat.{_+_, _*_}
 use mathlib.Core.Path.{refl}
 use native.Mathlib.Omega.{arith}
 use borrow.Author.Needs.{needs}
-use Rattle.mail.specs.MailParts.{sendsAt}
-use Rattle.mail.proofs.MailMeets.{join-posted, pair-posted}
+use Rattle.mail.specs.Parts.{sendsAt}
+use Rattle.mail.proofs.Meets.{join-posted, pair-posted}
 use Rattle.mail.proofs.send.Statement.{statement}
 use Rattle.mail.proofs.send.Tie as tie
 

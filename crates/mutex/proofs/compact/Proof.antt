@@ -1,8 +1,8 @@
--- `engine::mutex::compact` meets its contract. The loop's invariant is `Compacting`: of the entries before i, those that stay are at the front.
+-- `mutex::compact` meets its contract. The loop's invariant is `Compacting`: of the entries before i, those that stay are at the front.
 -- Assumes nothing.
 use Prim.Native.Nat.{_-_}
 use native.Mathlib.Omega.{arith}
-use Rattle.mutex.proofs.MutexCompact.{Compacting, begins, passes, moves, ends}
+use Rattle.mutex.proofs.Compacting.{Compacting, begins, passes, moves, ends}
 use Rattle.mutex.proofs.compact.Statement.{statement}
 use Rattle.mutex.proofs.compact.Tie as tie
 

@@ -1,10 +1,10 @@
--- `engine::mutex::join` meets its contract.
+-- `mutex::join` meets its contract.
 -- Assumes nothing.
 use Prim.Native.Nat.{_+_, _≤_}
 use mathlib.Core.Path.{_∙_, sym}
 use native.Mathlib.Omega.{arith}
 use borrow.Author.Needs.{needs}
-use Rattle.mutex.proofs.MutexSteps.{stays, one-more, enters}
+use Rattle.mutex.proofs.Steps.{stays, one-more, enters}
 use Rattle.mutex.proofs.join.Statement.{statement}
 use Rattle.mutex.proofs.join.Tie as tie
 

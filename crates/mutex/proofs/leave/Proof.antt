@@ -1,8 +1,8 @@
--- `engine::mutex::leave` meets its contract.
+-- `mutex::leave` meets its contract.
 -- Assumes nothing.
 use native.Mathlib.Omega.{arith}
 use borrow.Author.Needs.{needs}
-use Rattle.mutex.proofs.MutexSteps.{leaves}
+use Rattle.mutex.proofs.Steps.{leaves}
 use Rattle.mutex.proofs.leave.Statement.{statement}
 use Rattle.mutex.proofs.leave.Tie as tie
 

@@ -1,9 +1,9 @@
--- `engine::mutex::owner` meets its contract.
+-- `mutex::owner` meets its contract.
 -- Assumes nothing.
 use mathlib.Core.Path.{_∙_, ap}
 use lib.Dec.{eqb}
 use borrow.Author.Needs.{needs}
-use Rattle.mutex.proofs.MutexOwner.{owner-none, owner-first}
+use Rattle.mutex.proofs.Owning.{owner-none, owner-first}
 use Rattle.mutex.proofs.owner.Statement.{statement}
 use Rattle.mutex.proofs.owner.Tie as tie
 

@@ -1,4 +1,4 @@
--- `engine::mutex::queued` meets its contract. The loop's invariant: the actor is among all n entries just when it is among those from i on.
+-- `mutex::queued` meets its contract. The loop's invariant: the actor is among all n entries just when it is among those from i on.
 -- Assumes nothing.
 use Prim.Native.Nat.{ℕ, _-_, _≤_}
 use mathlib.Core.Path.{_≡_, _∙_, ap, sym}
@@ -7,7 +7,7 @@ use native.Mathlib.Omega.{arith}
 use borrow.Author.Needs.{needs}
 use lib.ListN.{take, drop}
 use Rattle.trace.specs.Order.{has}
-use Rattle.mutex.proofs.MutexScan.{rest, rest-begin, rest-end, has-found, has-passed}
+use Rattle.mutex.proofs.Scan.{rest, rest-begin, rest-end, has-found, has-passed}
 use Rattle.mutex.proofs.queued.Statement.{statement}
 use Rattle.mutex.proofs.queued.Tie as tie
 

@@ -7,7 +7,7 @@ use Rattle.table.specs.Read.{readOf}
 use Rattle.table.specs.Answer.{outcome}
 use Rattle.table.proofs.Readings.{refusing}
 use Rattle.model.specs.Schedule.{firstNumbers, checkSchedule}
-use Rattle.play.specs.PlayParts.{haltOf}
+use Rattle.play.specs.Parts.{haltOf}
 use Rattle.table.proofs.Checks.{then-refused, then-accepted}
 use Rattle.order.proofs.Outcomes.{run-refused, run-given, small-checks, run-checks, reportable, report-small}
 use Rattle.answers.proofs.Stops.{stop-refused}

@@ -1,4 +1,4 @@
--- `order_ffi::order_check` meets its contract, by those of `table::read` and of a reading's number and position.
+-- `order_ffi::order_check` meets its contract, by those of `reader::read` and of a reading's number and position.
 -- Assumes nothing.
 use mathlib.Core.Path.{_∙_, ap}
 use Rattle.table.specs.Outcome.{numberOf, positionOf}

@@ -1,4 +1,4 @@
--- `engine::play::play` meets its contract. The loop's invariant: the arrays hold the state that the first i entries have left, and all of them were ready.
+-- `play::play` meets its contract. The loop's invariant: the arrays hold the state that the first i entries have left, and all of them were ready.
 -- Assumes nothing.
 use mathlib.Core.Path.{_≡_, refl, _∙_, ap, sym}
 use mathlib.Core.List.{[]}
@@ -11,10 +11,10 @@ use Rattle.answers.specs.declared.Stop.{Stop}
 use Rattle.answers.specs.declared.Stop.the-variants.{Absent, Finished, Waiting}
 use Rattle.play.specs.declared.Halt.the-variants.{End, At}
 use Rattle.step.proofs.Taken.{position-small, actor-small}
-use Rattle.play.proofs.PlayNext.{entries-so-far, entry-absent}
+use Rattle.play.proofs.Next.{entries-so-far, entry-absent}
 use Rattle.state.proofs.Within.{getD-within}
-use Rattle.play.proofs.PlayStep.{refusal, finished-as, waiting-as, steppable-as, room-as, next-as}
-use Rattle.play.proofs.PlayEnds.{playing-start, checks-end, ended}
+use Rattle.play.proofs.Entry.{refusal, finished-as, waiting-as, steppable-as, room-as, next-as}
+use Rattle.play.proofs.Ends.{playing-start, checks-end, ended}
 use Rattle.play.proofs.play.Statement.{statement}
 use Rattle.play.proofs.play.Tie as tie
 

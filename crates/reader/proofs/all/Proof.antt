@@ -1,4 +1,4 @@
--- `table::entries::all` meets its contract. The loop's invariant: the actors from a on are as good as all of them.
+-- `reader::all` meets its contract. The loop's invariant: the actors from a on are as good as all of them.
 -- Assumes nothing.
 use Prim.Native.Nat.{ℕ, _-_, _≤_}
 use mathlib.Core.Path.{_≡_, refl, _∙_, ap, ap₂, sym}

@@ -1,4 +1,4 @@
--- `table::entries::entries` meets its contract. The loop's invariant: `due` is where actor a's actions have to begin, and the entries from a on are
+-- `reader::entries` meets its contract. The loop's invariant: `due` is where actor a's actions have to begin, and the entries from a on are
 -- as good as all of them.
 -- Assumes nothing.
 use Prim.Native.Nat.{ℕ, _+_, _-_, _*_, _≤_}

@@ -1,4 +1,4 @@
--- `table::entries::own` meets its contract. The loop's invariant: the checks from action k on are as good as all of them.
+-- `reader::own` meets its contract. The loop's invariant: the checks from action k on are as good as all of them.
 -- Assumes nothing.
 use Prim.Native.Nat.{_-_, _≤_}
 use mathlib.Core.Path.{_≡_, _∙_, sym}

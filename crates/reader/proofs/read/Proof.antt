@@ -1,4 +1,4 @@
--- `table::read` meets its contract: the tests of the header say which stage of `readOf` decides, and a right header leaves the rest to `entries`.
+-- `reader::read` meets its contract: the tests of the header say which stage of `readOf` decides, and a right header leaves the rest to `entries`.
 -- `w` is the place at which all three counts are read.
 -- Assumes nothing.
 use mathlib.Core.Path.{_∙_}

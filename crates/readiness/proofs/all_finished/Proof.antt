@@ -1,4 +1,4 @@
--- `engine::ready::all_finished` meets its contract. The loop's invariant: the actors from a on are as good as all of them.
+-- `readiness::all_finished` meets its contract. The loop's invariant: the actors from a on are as good as all of them.
 -- Assumes nothing.
 use mathlib.Core.Path.{_≡_, _∙_, ap, sym}
 use mathlib.Core.Bool.{Bool, not}
@@ -12,10 +12,10 @@ use lib.ListN.{getD}
 use Rattle.table.specs.Format.{countOf}
 use Rattle.model.specs.Ready.{all}
 use Rattle.state.specs.State.{freshActor}
-use Rattle.readiness.specs.ReadyParts.{everyoneFinished}
+use Rattle.readiness.specs.Parts.{everyoneFinished}
 use Rattle.state.specs.declared.Actor.{Actor}
 use Rattle.state.proofs.Within.{getD-within}
-use Rattle.readiness.proofs.ReadyLaws.{all-begin, all-next, all-end}
+use Rattle.readiness.proofs.Laws.{all-begin, all-next, all-end}
 use Rattle.readiness.proofs.all_finished.Statement.{statement}
 use Rattle.readiness.proofs.all_finished.Tie as tie
 

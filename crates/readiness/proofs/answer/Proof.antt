@@ -1,13 +1,13 @@
--- `engine::ready::answer` meets its contract: the mask is the state's, its ones are the actors that are ready, and the tests say the ending.
+-- `readiness::answer` meets its contract: the mask is the state's, its ones are the actors that are ready, and the tests say the ending.
 -- Assumes nothing.
 use mathlib.Core.Path.{refl, _∙_, ap, sym}
 use Prim.Native.Nat.{ℕ}
 use native.Mathlib.Omega.{arith}
 use borrow.Author.Tests.{eq-eqb, ne-eqb}
 use lib.Count.{ones}
-use Rattle.readiness.specs.ReadyParts.{everyoneFinished}
+use Rattle.readiness.specs.Parts.{everyoneFinished}
 use Rattle.answers.specs.declared.Ending.the-variants as case
-use Rattle.readiness.proofs.ReadyLaws.{answer-right}
+use Rattle.readiness.proofs.Laws.{answer-right}
 use borrow.Author.Needs.{needs}
 use Rattle.readiness.proofs.answer.Statement.{statement}
 use Rattle.readiness.proofs.answer.Tie as tie

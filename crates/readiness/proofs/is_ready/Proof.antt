@@ -1,4 +1,4 @@
--- `engine::ready::is_ready` meets its contract: only a WaitAny and a MutexWait look before they are ready.
+-- `readiness::is_ready` meets its contract: only a WaitAny and a MutexWait look before they are ready.
 -- Assumes nothing.
 use mathlib.Core.Path.{refl, _∙_, ap, sym, subst}
 use mathlib.Core.Bool.{true}
@@ -7,7 +7,7 @@ use Prim.Native.Nat.{_<_}
 use Rattle.table.specs.Format.{countOf}
 use Rattle.table.specs.Promise.{InRange}
 use Rattle.model.specs.Local.{isSeen}
-use Rattle.readiness.proofs.ReadyLaws.{looks-finished, looks-by}
+use Rattle.readiness.proofs.Laws.{looks-finished, looks-by}
 use borrow.Author.Needs.{needs}
 use Rattle.readiness.proofs.is_ready.Statement.{statement}
 use Rattle.readiness.proofs.is_ready.Tie as tie

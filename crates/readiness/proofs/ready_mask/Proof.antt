@@ -1,4 +1,4 @@
--- `engine::ready::ready_mask` meets its contract. The loop's invariant: m has the bits of the actors from a on.
+-- `readiness::ready_mask` meets its contract. The loop's invariant: m has the bits of the actors from a on.
 -- Assumes nothing.
 use mathlib.Core.Path.{_≡_, _∙_, ap, ap₂, sym}
 use mathlib.Core.List.{List, []}
@@ -9,10 +9,10 @@ use Rattle.table.specs.Format.{actorsOf}
 use Rattle.model.specs.Step.{ready}
 use Rattle.model.specs.Ready.{bit, maskOf}
 use Rattle.state.specs.State.{freshActor}
-use Rattle.readiness.specs.ReadyParts.{Answerable, siteWith, looksReady}
+use Rattle.readiness.specs.Parts.{Answerable, siteWith, looksReady}
 use Rattle.state.specs.declared.Actor.{Actor}
 use Rattle.state.proofs.Within.{getD-within}
-use Rattle.readiness.proofs.ReadyLaws.{ready-looks, mask-begin, mask-next, mask-end, mask-room}
+use Rattle.readiness.proofs.Laws.{ready-looks, mask-begin, mask-next, mask-end, mask-room}
 use Rattle.readiness.proofs.ready_mask.Statement.{statement}
 use Rattle.readiness.proofs.ready_mask.Tie as tie
 

@@ -1,4 +1,4 @@
--- `engine::report::actions_part` meets its contract. The loop's invariant: the first a actors' actions are written. Assumes nothing.
+-- `report::actions_part` meets its contract. The loop's invariant: the first a actors' actions are written. Assumes nothing.
 use mathlib.Core.Path.{subst, sym}
 use mathlib.Core.List.{List}
 use Prim.Native.Nat.{ℕ, _-_, _≤_}
@@ -7,7 +7,7 @@ use borrow.Author.Needs.{needs}
 use lib.ListN.{length}
 use Rattle.table.specs.Format.{countOf}
 use Rattle.writing.specs.Written.{Wrote}
-use Rattle.report.specs.ReportParts.{ownBytes}
+use Rattle.report.specs.Parts.{ownBytes}
 use Rattle.writing.proofs.Written.{rest}
 use Rattle.writing.proofs.Loops.{Turn, first-turn, next-at, next-room, next-sum, next-turn, all-wrote, all-length}
 use Rattle.report.proofs.actions_part.Statement.{statement}

@@ -1,4 +1,4 @@
--- `engine::report::actor_part` meets its contract: the position, then the cells. Assumes nothing.
+-- `report::actor_part` meets its contract: the position, then the cells. Assumes nothing.
 use mathlib.Core.List.{[], _∷_}
 use native.Mathlib.Omega.{arith}
 use borrow.Author.Needs.{needs}

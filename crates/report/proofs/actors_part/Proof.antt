@@ -1,4 +1,4 @@
--- `engine::report::actors_part` meets its contract. The loop's invariant: the first a actors are written. Assumes nothing.
+-- `report::actors_part` meets its contract. The loop's invariant: the first a actors are written. Assumes nothing.
 use mathlib.Core.Path.{subst, sym}
 use mathlib.Core.List.{List}
 use Prim.Native.Nat.{ℕ, _-_, _<_}
@@ -10,7 +10,7 @@ use Rattle.state.specs.State.{recordsOf}
 use Rattle.writing.specs.Written.{Wrote}
 use Rattle.writing.proofs.Written.{rest}
 use Rattle.writing.proofs.Loops.{Turn, first-turn, next-at, next-room, next-sum, next-turn, all-wrote, all-length}
-use Rattle.report.proofs.ReportActors.{taken-position, taken-bytes}
+use Rattle.report.proofs.Actors.{taken-position, taken-bytes}
 use Rattle.report.proofs.actors_part.Statement.{statement}
 use Rattle.report.proofs.actors_part.Tie as tie
 

@@ -1,4 +1,4 @@
--- `engine::report::box_part` meets its contract: the length, then the steps of each port. Assumes nothing.
+-- `report::box_part` meets its contract: the length, then the steps of each port. Assumes nothing.
 use mathlib.Core.Path.{_≡_, sym, subst}
 use mathlib.Core.List.{List, _++_}
 use Prim.Native.Nat.{ℕ, _+_, _*_, _≤_}
@@ -7,10 +7,10 @@ use borrow.Author.Needs.{needs}
 use lib.ListN.{length}
 use Rattle.model.specs.Report.{word, boxBytes}
 use Rattle.writing.specs.Written.{Wrote}
-use Rattle.report.specs.ReportParts.{portBytes, queueOf}
+use Rattle.report.specs.Parts.{portBytes, queueOf}
 use Rattle.writing.proofs.Written.{joined}
 use Rattle.writing.proofs.Sections.{Begun, first-section, left-at, left-room, last-sum, last-wrote, section-room, section-sum, next-section}
-use Rattle.report.proofs.ReportBoxes.{countIn, box-split}
+use Rattle.report.proofs.Boxes.{countIn, box-split}
 use Rattle.report.proofs.box_part.Statement.{statement}
 use Rattle.report.proofs.box_part.Tie as tie
 

@@ -1,10 +1,10 @@
--- `engine::report::boxes_part` meets its contract. The loop's invariant: the first m mailboxes are written. Assumes nothing.
+-- `report::boxes_part` meets its contract. The loop's invariant: the first m mailboxes are written. Assumes nothing.
 use mathlib.Core.List.{List}
 use Prim.Native.Nat.{ℕ, _-_}
 use native.Mathlib.Omega.{arith}
 use borrow.Author.Needs.{needs}
 use Rattle.model.specs.Report.{boxBytes}
-use Rattle.report.specs.ReportParts.{queueOf}
+use Rattle.report.specs.Parts.{queueOf}
 use Rattle.writing.proofs.Loops.{Turn, first-turn, next-at, next-room, next-sum, next-turn, all-wrote, all-length}
 use Rattle.report.proofs.boxes_part.Statement.{statement}
 use Rattle.report.proofs.boxes_part.Tie as tie

@@ -1,10 +1,10 @@
--- `engine::report::comm_part` meets its contract: each state is one entry. Assumes nothing.
+-- `report::comm_part` meets its contract: each state is one entry. Assumes nothing.
 use mathlib.Core.Path.{subst}
 use mathlib.Core.List.{List}
 use Prim.Native.Nat.{ℕ}
 use borrow.Author.Needs.{needs}
 use Rattle.writing.specs.Written.{Wrote}
-use Rattle.report.proofs.ReportComms.{unposted-bytes, pending-bytes, done-bytes}
+use Rattle.report.proofs.Comms.{unposted-bytes, pending-bytes, done-bytes}
 use Rattle.report.proofs.comm_part.Statement.{statement}
 use Rattle.report.proofs.comm_part.Tie as tie
 

@@ -1,4 +1,4 @@
--- `engine::report::entry` meets its contract: four bytes, then the value. Assumes nothing.
+-- `report::entry` meets its contract: four bytes, then the value. Assumes nothing.
 use mathlib.Core.List.{[], _∷_}
 use borrow.Author.Needs.{needs}
 use Rattle.model.specs.Report.{long}

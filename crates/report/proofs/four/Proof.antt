@@ -1,4 +1,4 @@
--- `engine::report::four` meets its contract. Assumes nothing.
+-- `report::four` meets its contract. Assumes nothing.
 use mathlib.Core.List.{[], _∷_}
 use native.Mathlib.Omega.{arith}
 use borrow.Author.Needs.{needs}

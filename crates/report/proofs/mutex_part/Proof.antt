@@ -1,4 +1,4 @@
--- `engine::report::mutex_part` meets its contract. Assumes nothing.
+-- `report::mutex_part` meets its contract. Assumes nothing.
 use mathlib.Core.Path.{_∙_, ap, subst}
 use mathlib.Core.List.{List}
 use Prim.Native.Nat.{ℕ, _+_, _*_}
@@ -6,7 +6,7 @@ use native.Mathlib.Omega.{arith}
 use borrow.Author.Needs.{needs}
 use lib.ListN.{take, drop}
 use Rattle.writing.specs.Written.{Wrote}
-use Rattle.report.proofs.ReportMutexes.{queue-length, mutex-at}
+use Rattle.report.proofs.Mutexes.{queue-length, mutex-at}
 use Rattle.report.proofs.mutex_part.Statement.{statement}
 use Rattle.report.proofs.mutex_part.Tie as tie
 

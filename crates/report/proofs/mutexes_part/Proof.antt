@@ -1,4 +1,4 @@
--- `engine::report::mutexes_part` meets its contract. The loop's invariant: the first m mutexes are written. Assumes nothing.
+-- `report::mutexes_part` meets its contract. The loop's invariant: the first m mutexes are written. Assumes nothing.
 use mathlib.Core.List.{List}
 use Prim.Native.Nat.{ℕ, _-_}
 use native.Mathlib.Omega.{arith}

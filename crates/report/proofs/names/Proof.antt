@@ -1,4 +1,4 @@
--- `engine::report::names` meets its contract. The loop's invariant: the first i names are written. Assumes nothing.
+-- `report::names` meets its contract. The loop's invariant: the first i names are written. Assumes nothing.
 use mathlib.Core.Path.{subst, sym, _≡_}
 use mathlib.Core.List.{List}
 use Prim.Native.Nat.{ℕ, _-_, _≤_}
@@ -7,9 +7,9 @@ use borrow.Author.Needs.{needs}
 use lib.ListN.{length}
 use Rattle.model.specs.Report.{parts}
 use Rattle.writing.specs.Written.{Wrote}
-use Rattle.report.specs.ReportParts.{stepsBytes}
+use Rattle.report.specs.Parts.{stepsBytes}
 use Rattle.writing.proofs.Loops.{Turn, first-turn, next-at, next-room, next-sum, next-turn, all-wrote, all-length}
-use Rattle.report.proofs.ReportLists.{nameAt, names-at}
+use Rattle.report.proofs.Lists.{nameAt, names-at}
 use Rattle.report.proofs.names.Statement.{statement}
 use Rattle.report.proofs.names.Tie as tie
 

@@ -1,4 +1,4 @@
--- `engine::report::own_part` meets its contract. The loop's invariant: the first k actions are written. Assumes nothing.
+-- `report::own_part` meets its contract. The loop's invariant: the first k actions are written. Assumes nothing.
 use mathlib.Core.Path.{subst}
 use mathlib.Core.List.{List}
 use Prim.Native.Nat.{ℕ, _+_, _-_, _*_, _<_, _≤_}
@@ -11,7 +11,7 @@ use Rattle.state.specs.State.{commsOf}
 use Rattle.writing.specs.Written.{Wrote}
 use Rattle.writing.proofs.Written.{rest}
 use Rattle.writing.proofs.Loops.{Turn, first-turn, next-at, next-room, next-sum, next-turn, all-wrote, all-length}
-use Rattle.report.proofs.ReportComms.{comm-length, comm-at}
+use Rattle.report.proofs.Comms.{comm-length, comm-at}
 use Rattle.report.proofs.own_part.Statement.{statement}
 use Rattle.report.proofs.own_part.Tie as tie
 

@@ -1,4 +1,4 @@
--- `engine::report::port_part` meets its contract. Assumes nothing.
+-- `report::port_part` meets its contract. Assumes nothing.
 use mathlib.Core.Path.{subst, sym}
 use mathlib.Core.List.{List}
 use Prim.Native.Nat.{ℕ, _+_, _*_, _≤_}
@@ -7,8 +7,8 @@ use borrow.Author.Needs.{needs}
 use lib.ListN.{length}
 use Rattle.state.specs.State.{headIn}
 use Rattle.writing.specs.Written.{Wrote}
-use Rattle.report.specs.ReportParts.{stepsBytes}
-use Rattle.report.proofs.ReportBoxes.{port-room}
+use Rattle.report.specs.Parts.{stepsBytes}
+use Rattle.report.proofs.Boxes.{port-room}
 use Rattle.report.proofs.port_part.Statement.{statement}
 use Rattle.report.proofs.port_part.Tie as tie
 

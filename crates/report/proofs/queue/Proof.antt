@@ -1,4 +1,4 @@
--- `engine::report::queue` meets its contract. The loop's invariant: the first i bytes are written. Assumes nothing.
+-- `report::queue` meets its contract. The loop's invariant: the first i bytes are written. Assumes nothing.
 use mathlib.Core.Path.{refl, subst, sym, ap, _∙_, _≡_}
 use mathlib.Core.List.{List}
 use Prim.Native.Nat.{ℕ, _-_, _≤_}
@@ -8,7 +8,7 @@ use lib.ListN.{length, take, drop}
 use Rattle.model.specs.Report.{parts}
 use Rattle.writing.specs.Written.{Wrote}
 use Rattle.writing.proofs.Loops.{Turn, first-turn, next-fits, next-store, all-wrote, all-length}
-use Rattle.report.proofs.ReportLists.{byteOf, bytes-at, taken-length}
+use Rattle.report.proofs.Lists.{byteOf, bytes-at, taken-length}
 use Rattle.report.proofs.queue.Statement.{statement}
 use Rattle.report.proofs.queue.Tie as tie
 

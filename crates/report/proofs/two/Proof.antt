@@ -1,4 +1,4 @@
--- `engine::report::two` meets its contract. Assumes nothing.
+-- `report::two` meets its contract. Assumes nothing.
 use mathlib.Core.List.{[], _∷_}
 use borrow.Author.Needs.{needs}
 use Rattle.writing.proofs.Written.{wrote-stores}

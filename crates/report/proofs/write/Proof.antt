@@ -1,4 +1,4 @@
--- `engine::report::write` meets its contract: the four sections, each in the rest after the one before it. Assumes nothing.
+-- `report::write` meets its contract: the four sections, each in the rest after the one before it. Assumes nothing.
 use mathlib.Core.Path.{_≡_, refl, sym, subst}
 use mathlib.Core.List.{List, _++_}
 use Prim.Native.Nat.{ℕ, _+_, _<_, _≤_}
@@ -10,7 +10,7 @@ use Rattle.model.specs.Site.{Site}
 use Rattle.model.specs.Report.{report}
 use Rattle.state.specs.State.{siteOf}
 use Rattle.writing.specs.Written.{Wrote}
-use Rattle.report.specs.ReportParts.{actorsBytes, actionsBytes, boxesBytes, mutexesBytes}
+use Rattle.report.specs.Parts.{actorsBytes, actionsBytes, boxesBytes, mutexesBytes}
 use Rattle.writing.proofs.Written.{rest, joined}
 use Rattle.writing.proofs.Sections.{Begun, first-section, left-at, left-room, last-sum, last-wrote, section-room, section-sum, next-section}
 use Rattle.report.proofs.write.Statement.{statement}

@@ -1,10 +1,10 @@
--- `engine::step::picked` meets its contract: only a Receive that was found is picked up.
+-- `step::picked` meets its contract: only a Receive that was found is picked up.
 -- Assumes nothing.
 use mathlib.Core.Path.{refl, _∙_, ap, sym, subst}
 use Rattle.table.specs.Decode.{actionOf}
 use Rattle.table.specs.Promise.{InRange}
-use Rattle.look.specs.LookParts.{seenOf}
-use Rattle.step.specs.StepParts.{Picks}
+use Rattle.look.specs.Parts.{seenOf}
+use Rattle.step.specs.Parts.{Picks}
 use Rattle.step.proofs.Steps.{picks, picks-none}
 use borrow.Author.Needs.{needs}
 use Rattle.step.proofs.picked.Statement.{statement}

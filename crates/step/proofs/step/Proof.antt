@@ -1,4 +1,4 @@
--- `engine::step::step` meets its contract: in each arm the action is known, its range gives what the callees ask, and what they ensure makes up the
+-- `step::step` meets its contract: in each arm the action is known, its range gives what the callees ask, and what they ensure makes up the
 -- model's step of that action.
 -- Assumes nothing.
 use mathlib.Core.Path.{refl, _∙_, ap, sym, subst}
@@ -11,10 +11,10 @@ use Rattle.table.specs.declared.Action.the-variants.{Set, Add, Lesser, Send, Re
 use Rattle.table.specs.Decode.{actionOf}
 use Rattle.model.specs.Views.{joins, leaves, waits}
 use Rattle.state.specs.State.{mailOf}
-use Rattle.mail.specs.MailParts.{sendsAt, receivesAt}
+use Rattle.mail.specs.Parts.{sendsAt, receivesAt}
 use Rattle.model.specs.Local.{Seen, pickUpSeen, placeSeen, isSeen, cellsAfter}
-use Rattle.look.specs.LookParts.{seenOf}
-use Rattle.step.specs.StepParts.{Picks, SmallPlace}
+use Rattle.look.specs.Parts.{seenOf}
+use Rattle.step.specs.Parts.{Picks, SmallPlace}
 use Rattle.step.proofs.Taken.{ranged, position-small, actor-small, listed-small, pickable, small-place, pick-length, quiet, posted, meets-as, queued, of-next}
 use borrow.Author.Needs.{needs}
 use Rattle.step.proofs.step.Statement.{statement}

@@ -1,11 +1,11 @@
--- `engine::step::told` meets its contract: the place of what was seen goes into the result cell.
+-- `step::told` meets its contract: the place of what was seen goes into the result cell.
 -- Assumes nothing.
 use mathlib.Core.Path.{_∙_, ap, sym, subst}
 use native.Mathlib.Omega.{arith}
 use lib.ListN.{set}
 use Rattle.model.specs.Local.{placeSeen}
-use Rattle.look.specs.LookParts.{seenOf}
-use Rattle.step.specs.StepParts.{SmallPlace}
+use Rattle.look.specs.Parts.{seenOf}
+use Rattle.step.specs.Parts.{SmallPlace}
 use borrow.Author.Needs.{needs}
 use Rattle.step.proofs.told.Statement.{statement}
 use Rattle.step.proofs.told.Tie as tie

@@ -1,4 +1,4 @@
--- `engine::Actor::add` meets its contract, by that of the wrapping sum.
+-- `state::Actor::add` meets its contract, by that of the wrapping sum.
 -- Assumes nothing.
 use mathlib.Core.Path.{refl, ap}
 use lib.ListN.{set}

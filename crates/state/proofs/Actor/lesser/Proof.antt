@@ -1,4 +1,4 @@
--- `engine::Actor::lesser` meets its contract, by that of the smaller of two numbers.
+-- `state::Actor::lesser` meets its contract, by that of the smaller of two numbers.
 -- Assumes nothing.
 use mathlib.Core.Path.{refl, ap}
 use lib.ListN.{set}

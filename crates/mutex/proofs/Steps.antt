@@ -12,9 +12,9 @@ use Rattle.trace.specs.Order.{has}
 use Rattle.model.specs.Site.{upd}
 use Rattle.model.specs.Mutex.{join, leave}
 use Rattle.state.specs.State.{sizeIn, queuesOf, QueueRoom}
-use Rattle.mutex.specs.MutexParts.{Compacted}
+use Rattle.mutex.specs.Parts.{Compacted}
 use Rattle.writing.proofs.Stored.{stored}
-use Rattle.mutex.proofs.MutexQueue.{upd-same, part-before, part-behind, queue-length, changed, room-kept}
+use Rattle.mutex.proofs.Queues.{upd-same, part-before, part-behind, queue-length, changed, room-kept}
 
 -- the queues are the model's with queue m changed, and have room
 abbrev pub Becomes : (queues after : List ℕ) → ℕ → List ℕ → Type 0

@@ -10,9 +10,9 @@ use denote.Enum.Declared.{tagOf, declared}
 use Rattle.model.specs.Local.{Seen, first}
 use Rattle.look.specs.declared.Seen.{Seen as Found}
 use Rattle.look.specs.declared.Seen.the-variants.{Unseen, At}
-use Rattle.look.specs.LookParts.{seenOf}
+use Rattle.look.specs.Parts.{seenOf}
 use Rattle.look.proofs.Seen.{enum}
-use Rattle.look.proofs.LookPlaces.{orElse, place, places}
+use Rattle.look.proofs.Places.{orElse, place, places}
 
 abbrev variant : Found → ℕ
 variant r = tagOf (declared enum) r

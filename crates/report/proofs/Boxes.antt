@@ -10,8 +10,8 @@ use Rattle.trace.specs.Machine.{Name}
 use Rattle.model.specs.Report.{word, nameBytes, boxBytes}
 use Rattle.names.specs.InByte.{nameOf}
 use Rattle.state.specs.State.{headIn, tailIn, pendingIn, LogRoom}
-use Rattle.report.specs.ReportParts.{portBytes, queueOf}
-use Rattle.report.proofs.ReportLists.{taken-length}
+use Rattle.report.specs.Parts.{portBytes, queueOf}
+use Rattle.report.proofs.Lists.{taken-length}
 
 names-append : (l k : List Name) → nameBytes (l ++ k) ≡ nameBytes l ++ nameBytes k
 names-append [] k = refl

@@ -9,7 +9,7 @@ use lib.ListN.{length, take, drop}
 use lib.Seq.{drop-cons}
 use Rattle.model.specs.Report.{mutexBytes}
 use Rattle.state.specs.State.{sizeIn, queuesOf, QueueRoom}
-use Rattle.report.proofs.ReportLists.{taken-length}
+use Rattle.report.proofs.Lists.{taken-length}
 
 module _ (queues : List ℕ) (r : QueueRoom queues) (m : ℕ) (known : m < 8) where
   pub queue-length : length (queuesOf queues m) ≡ sizeIn queues m

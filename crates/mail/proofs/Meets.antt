@@ -12,11 +12,11 @@ use Rattle.model.specs.Site.{upd, Port, opposite, done}
 use Rattle.model.specs.Mail.{pairValue, carried, pair, meet, meetWith}
 use Rattle.names.specs.InByte.{nameOf}
 use Rattle.state.specs.State.{commOf, commsOf, portNumber, headIn, tailIn, waitingOf, mailOf, MailRoom}
-use Rattle.mail.specs.MailParts.{pendingCode, doneCode, paired, oldestIn, appended, headOn, tailOn, Posted}
-use Rattle.mail.proofs.MailChanges.{each-after}
-use Rattle.mail.proofs.MailEnds.{heads-kept, tails-kept, each-head, each-tail}
-use Rattle.mail.proofs.MailComms.{joined, both-done, carried-at}
-use Rattle.mail.proofs.MailQueues.{waiting-appended, waiting-taken, waiting-some, waiting-none}
+use Rattle.mail.specs.Parts.{pendingCode, doneCode, paired, oldestIn, appended, headOn, tailOn, Posted}
+use Rattle.mail.proofs.Changes.{each-after}
+use Rattle.mail.proofs.Ends.{heads-kept, tails-kept, each-head, each-tail}
+use Rattle.mail.proofs.Comms.{joined, both-done, carried-at}
+use Rattle.mail.proofs.Queues.{waiting-appended, waiting-taken, waiting-some, waiting-none}
 
 -- a tail that goes one further
 grown-by-one : (ends : List ℕ) (n : ℕ) → length ends ≡ 32 → n < 16 → (k : ℕ) → tailIn (tailOn ends n) k ≤ tailIn ends k + 1

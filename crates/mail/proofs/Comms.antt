@@ -18,8 +18,8 @@ use Rattle.model.specs.Mail.{carried}
 use Rattle.model.proofs.Ports.{name-test}
 use Rattle.names.specs.InByte.{nameOf}
 use Rattle.state.specs.State.{commOf, commsOf}
-use Rattle.mail.specs.MailParts.{pendingCode, doneCode, paired}
-use Rattle.mail.proofs.MailChanges.{changed-at}
+use Rattle.mail.specs.Parts.{pendingCode, doneCode, paired}
+use Rattle.mail.proofs.Changes.{changed-at}
 
 -- a name is that of its number
 named : (x : Name) (j : ℕ) → x .position < 32 → 32 * x .actor + x .position ≡ j → x ≡ nameOf j

@@ -30,13 +30,13 @@ use Rattle.model.proofs.ReportBoundCells.{cellsAfter-length}
 use Rattle.model.proofs.ReportBound.{entries-room}
 use Rattle.names.specs.InByte.{nameOf}
 use Rattle.state.specs.State.{recordOf, recordsOf, freshActor, mailOf, queuesOf, siteOf, MailRoom, QueueRoom, EightCells, nextOf, seenFrom}
-use Rattle.step.specs.StepParts.{Steppable, StepTaken}
+use Rattle.step.specs.Parts.{Steppable, StepTaken}
 use Rattle.state.specs.declared.Actor.{Actor}
 use Rattle.step.specs.declared.Stepped.{Stepped}
 use Rattle.names.proofs.InByte.{name-byte}
 use Rattle.play.proofs.Prefix.{accepted-more, final-more, names-more, checks-after}
 use Rattle.play.proofs.Playing.{reached, Playing, records-set, join-most}
-use Rattle.look.proofs.LookParts.{see-parts}
+use Rattle.look.proofs.Sees.{see-parts}
 
 map-more : (f : ℕ → Name) (l : List ℕ) (x : ℕ) → map f (l ++ (x ∷ [])) ≡ map f l ++ (f x ∷ [])
 map-more f [] x = refl

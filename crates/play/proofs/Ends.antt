@@ -19,7 +19,7 @@ use Rattle.model.proofs.Checks.{taken-checks}
 use Rattle.model.proofs.ReportBound.{entries-room}
 use Rattle.names.specs.InByte.{nameOf}
 use Rattle.state.specs.State.{recordOf, recordsOf, freshActor, commOf, commsOf, waitingOf, queuesOf, siteOf, portNumber, MailRoom, QueueRoom, EightCells}
-use Rattle.play.specs.PlayParts.{Fresh, Ended}
+use Rattle.play.specs.Parts.{Fresh, Ended}
 use Rattle.state.specs.declared.Actor.{Actor}
 use Rattle.play.specs.declared.Halt.{Halt}
 use Rattle.play.specs.declared.Played.{Played}

@@ -10,8 +10,8 @@ use lib.ListN.{length, getD, take, drop, set, length-set}
 use lib.Seq.{take-set-le, drop-set-lt}
 use borrow.Author.Tests.{eq-eqb, ne-eqb}
 use Rattle.model.specs.Mutex.{leave}
-use Rattle.mutex.specs.MutexParts.{Compacted}
-use Rattle.mutex.proofs.MutexScan.{rest, rest-begin, rest-next, rest-end}
+use Rattle.mutex.specs.Parts.{Compacted}
+use Rattle.mutex.proofs.Scan.{rest, rest-begin, rest-next, rest-end}
 use Rattle.writing.proofs.Stored.{stored}
 
 -- the entries before i have been looked at: `kept` of them stay

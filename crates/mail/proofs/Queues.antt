@@ -17,9 +17,9 @@ use Rattle.model.specs.Mail.{atEnd}
 use Rattle.model.proofs.Ports.{port-test}
 use Rattle.names.specs.InByte.{nameOf}
 use Rattle.state.specs.State.{sideNumber, portNumber, headIn, tailIn, pendingIn, waitingOf, LogRoom}
-use Rattle.mail.specs.MailParts.{oldestIn, appended, headOn, tailOn}
-use Rattle.mail.proofs.MailChanges.{changed-at}
-use Rattle.mail.proofs.MailEnds.{heads-kept, tails-kept, head-other, tail-other, head-own, tail-own}
+use Rattle.mail.specs.Parts.{oldestIn, appended, headOn, tailOn}
+use Rattle.mail.proofs.Changes.{changed-at}
+use Rattle.mail.proofs.Ends.{heads-kept, tails-kept, head-other, tail-other, head-own, tail-own}
 
 -- ---- ports and their numbers
 

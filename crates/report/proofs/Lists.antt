@@ -9,7 +9,7 @@ use lib.ListN.{length, getD, take, drop, length-drop}
 use lib.Seq.{drop-cons, length-take-le}
 use Rattle.model.specs.Report.{parts, nameBytes}
 use Rattle.names.specs.InByte.{nameOf}
-use Rattle.report.specs.ReportParts.{stepsBytes}
+use Rattle.report.specs.Parts.{stepsBytes}
 
 -- the bytes `g x` of each element x
 abbrev flat : (ℕ → List ℕ) → List ℕ → List ℕ

@@ -11,15 +11,15 @@ use Rattle.table.specs.Format.{actorsOf, countOf}
 use Rattle.model.specs.Step.{passes}
 use Rattle.model.specs.Schedule.{RefusalNumbers, checkSchedule}
 use Rattle.state.specs.State.{freshActor, mailOf, queuesOf, nextOf, seenFrom}
-use Rattle.step.specs.StepParts.{Steppable, StepTaken}
-use Rattle.play.specs.PlayParts.{Ended, PlayedRight, haltOf}
+use Rattle.step.specs.Parts.{Steppable, StepTaken}
+use Rattle.play.specs.Parts.{Ended, PlayedRight, haltOf}
 use Rattle.state.specs.declared.Actor.{Actor}
 use Rattle.step.specs.declared.Stepped.{Stepped}
 use Rattle.play.specs.declared.Halt.{Halt}
 use Rattle.play.specs.declared.Halt.the-variants.{End}
 use Rattle.play.specs.declared.Played.{Played}
 use Rattle.play.proofs.Playing.{Playing}
-use Rattle.play.proofs.PlayNext.{entry-finished, entry-waiting, steppable, room-here, playing-next}
+use Rattle.play.proofs.Next.{entry-finished, entry-waiting, steppable, room-here, playing-next}
 
 -- what a halt before the end says of the schedule is all that is to be shown
 pub refusal : {table schedule comms log ends queues names′ : List ℕ} (r : Played) → (r .halt ≡ End → ⊥)

@@ -20,12 +20,12 @@ use Rattle.model.specs.Step.{passes, ready, unfinished}
 use Rattle.model.specs.Ready.{bit, maskOf, howMany, all, Ending, finished, stuck, going, endingOf, ReadyAnswer, readyMask, readyCount, readyAnswer}
 use Rattle.model.proofs.ReadyMask.{mask-small, mask-right}
 use Rattle.state.specs.State.{mailOf, queuesOf, siteOf, freshActor, nextOf, seenFrom}
-use Rattle.readiness.specs.ReadyParts.{siteWith, looksReady, everyoneFinished}
+use Rattle.readiness.specs.Parts.{siteWith, looksReady, everyoneFinished}
 use Rattle.answers.specs.Answers.{endingAs, readinessOf}
 use Rattle.state.specs.declared.Actor.{Actor}
 use Rattle.answers.specs.declared.Ending.the-variants as case
 use Rattle.answers.specs.declared.Readiness.{Readiness}
-use Rattle.look.proofs.LookParts.{see-parts}
+use Rattle.look.proofs.Sees.{see-parts}
 
 -- ---- one actor
 

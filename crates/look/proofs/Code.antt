@@ -13,7 +13,7 @@ use Rattle.trace.proofs.Bools.{which}
 use Rattle.model.specs.Site.{unposted, name}
 use Rattle.model.specs.Mail.{isDone, carried}
 use Rattle.state.specs.State.{commOf, commsOf}
-use Rattle.look.specs.LookParts.{doneIn, valueIn}
+use Rattle.look.specs.Parts.{doneIn, valueIn}
 
 not-done : (code : ℕ) → code % 4 < 2 → isDone (commOf code) ≡ false
 not-done code h = go (which (eqb (code % 4) 0)) (which (eqb (code % 4) 1))
