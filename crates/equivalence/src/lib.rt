@@ -12,6 +12,7 @@ ghost use Rattle.names.specs.Steps.{Stands};
 ghost use Rattle.names.specs.Names.{namesIn};
 ghost use Rattle.equivalence.specs.Compared.{Compared};
 ghost use Rattle.equivalence.specs.Parts.{someBelow, Indexed, Located, crosses, crossed};
+use table::bytes;
 
 // Whether the second list of m step names is the first's trace in another order: it has the first's names, and runs no dependent pair in
 // the opposite order. All names are looked up before any pair is compared.
@@ -36,7 +37,7 @@ fn indexed(second: &[u8; 256], m: usize, index: &mut [u16; 256])
 {
     let mut i = 0;
     while i < m {
-        let name = wide(second[i]);
+        let name = bytes::wide(second[i]);
         index[name] = i as u16;
         i += 1;
     }
@@ -49,7 +50,7 @@ fn located(first: &[u8; 256], index: &[u16; 256], m: usize, places: &mut [u16; 2
 {
     let mut i = 0;
     while i < m {
-        let name = wide(first[i]);
+        let name = bytes::wide(first[i]);
         let place = index[name];
         if place == 256 {
             return false;
@@ -70,7 +71,7 @@ fn ordered(table: &[u8], first: &[u8; 256], places: &[u16; 256], m: usize) -> bo
     let mut marks = [0u64; 256];
     let mut j = 0;
     while j < m {
-        let name = wide(first[j]);
+        let name = bytes::wide(first[j]);
         let step = footprint::of_step(table, name / 32, name % 32);
         let place = places[j];
         if opposed(places, &marks, j, place, step.meets) {
@@ -95,10 +96,4 @@ fn opposed(places: &[u16; 256], marks: &[u64; 256], j: usize, place: u16, meets:
         i += 1;
     }
     false
-}
-
-fn wide(x: u8) -> usize
-    ensures { λ r. ⌜ (r ≡ x) × (r < 256) ⌝ }
-{
-    x as usize
 }
