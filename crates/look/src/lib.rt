@@ -80,13 +80,7 @@ fn communication(comms: &[u64; 256], a: usize, count: usize, place: usize, k: us
 }
 
 // The same of mutex m, if the actor owns it.
-fn owned(
-    queues: &[u8; 72],
-    a: usize,
-    count: usize,
-    place: usize,
-    m: usize,
-) -> Seen
+fn owned(queues: &[u8; 72], a: usize, count: usize, place: usize, m: usize) -> Seen
     requires { ⌜ QueueRoom (now queues) × (place ≤ count → m < 8) ⌝ }
     ensures { λ r. ⌜ seenOf r
         ≡ cond (leb place count) (mutexesSeen (now (queues .entry)) a place (m ∷ [])) unseen ⌝ }

@@ -24,12 +24,7 @@ pub struct Readiness {
 }
 
 // The number of actors that are ready is the number of ones in their mask.
-pub fn answer(
-    table: &[u8],
-    actors: [Actor; 8],
-    comms: &[u64; 256],
-    queues: &[u8; 72],
-) -> Readiness
+pub fn answer(table: &[u8], actors: [Actor; 8], comms: &[u64; 256], queues: &[u8; 72]) -> Readiness
     requires { ⌜ Answerable (now table) actors (now comms) (now queues) ⌝ }
     ensures { λ r. ⌜ ((log ends : List ℕ) → readinessOf r
         ≡ readyAnswer (now (table .entry)) (siteWith actors (now (comms .entry)) (now (queues .entry)) log ends)) ⌝ }
@@ -81,13 +76,7 @@ fn ready_mask(
 }
 
 // Whether an actor is ready: not finished, and it need not wait.
-fn is_ready(
-    table: &[u8],
-    a: usize,
-    r: Actor,
-    comms: &[u64; 256],
-    queues: &[u8; 72],
-) -> bool
+fn is_ready(table: &[u8], a: usize, r: Actor, comms: &[u64; 256], queues: &[u8; 72]) -> bool
     requires { ⌜ Looked (now table) a (now comms) (now queues) ⌝ }
     ensures { λ b. ⌜ ((log ends : List ℕ) → b
         ≡ looksReady (now (table .entry)) a r (now (comms .entry)) (now (queues .entry)) log ends) ⌝ }
@@ -114,11 +103,7 @@ fn is_ready(
         Action::Lock { mutex: _ } => true,
         Action::Unlock { mutex: _ } => true,
         Action::MutexTest { result: _, list: _ } => true,
-        Action::MutexWait { result: _, list } => look::is_seen(look::mutexes(
-            queues,
-            a,
-            list,
-        )),
+        Action::MutexWait { result: _, list } => look::is_seen(look::mutexes(queues, a, list)),
     }
 }
 

@@ -171,12 +171,7 @@ fn waiting(ends: &[usize; 32], port: usize) -> usize
 }
 
 // The steps that are pending at a port.
-fn port_part(
-    log: &[u8; 4096],
-    ends: &[usize; 32],
-    port: usize,
-    buf: &mut [u8],
-) -> usize
+fn port_part(log: &[u8; 4096], ends: &[usize; 32], port: usize, buf: &mut [u8]) -> usize
     requires { ⌜ LogRoom (now log) (now ends) × (port < 16) × (length (portBytes (now log) (now ends) port) ≤ length (now buf)) ⌝ }
     ensures { λ r. ⌜ Wrote (now (buf .entry)) (portBytes (now (log .entry)) (now (ends .entry)) port) (now (buf .exit)) r ⌝ }
 {
@@ -186,12 +181,7 @@ fn port_part(
 }
 
 // A mailbox's queue: its length and its steps.
-fn box_part(
-    log: &[u8; 4096],
-    ends: &[usize; 32],
-    m: usize,
-    buf: &mut [u8],
-) -> usize
+fn box_part(log: &[u8; 4096], ends: &[usize; 32], m: usize, buf: &mut [u8]) -> usize
     requires { ⌜ LogRoom (now log) (now ends) × (m < 8)
         × (length (boxBytes (queueOf (now log) (now ends) m)) ≤ length (now buf)) ⌝ }
     ensures { λ r. ⌜ Wrote (now (buf .entry)) (boxBytes (queueOf (now (log .entry)) (now (ends .entry)) m)) (now (buf .exit)) r ⌝ }
@@ -204,12 +194,7 @@ fn box_part(
 }
 
 // The mailboxes.
-fn boxes_part(
-    log: &[u8; 4096],
-    ends: &[usize; 32],
-    count: usize,
-    buf: &mut [u8],
-) -> usize
+fn boxes_part(log: &[u8; 4096], ends: &[usize; 32], count: usize, buf: &mut [u8]) -> usize
     requires { ⌜ LogRoom (now log) (now ends) × (count ≤ 8)
         × (length (boxesBytes (now log) (now ends) count) ≤ length (now buf)) ⌝ }
     ensures { λ r. ⌜ Wrote (now (buf .entry)) (boxesBytes (now (log .entry)) (now (ends .entry)) count) (now (buf .exit)) r ⌝ }
