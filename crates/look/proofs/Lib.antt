@@ -1,5 +1,5 @@
 -- A look at a list, place by place.
 pub mod Places
 pub mod Found
-pub mod Code
+pub mod Coded
 pub mod Sees

@@ -8,7 +8,7 @@ use borrow.Author.Needs.{needs}
 use Rattle.model.specs.Local.{seen}
 use Rattle.look.specs.Parts.{communicationsSeen, doneIn, valueIn}
 use Rattle.look.proofs.Places.{beyond, passed, failed}
-use Rattle.look.proofs.Code.{open-still, done-now, value-now}
+use Rattle.look.proofs.Coded.{open-still, done-now, value-now}
 use Rattle.look.proofs.communication.Statement.{statement}
 use Rattle.look.proofs.communication.Tie as tie
 
