@@ -1,5 +1,2 @@
--- The proofs of this crate that belong to no one function.
-pub mod Writing
-pub mod Wordings
-pub mod StepLines
+-- The listing by what is known of its checks.
 pub mod Outcomes

@@ -27,7 +27,7 @@ use Rattle.play.specs.declared.Played.{Played}
 use Rattle.answers.specs.declared.Readiness.{Readiness}
 use Rattle.listing.specs.declared.Listing.{Listing}
 use Rattle.listing.specs.Laid.{Laid}
-use Rattle.listing.specs.FirstSteps.{firstSteps}
+use Rattle.lines.specs.FirstSteps.{firstSteps}
 
 -- ---- checks in order
 

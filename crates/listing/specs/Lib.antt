@@ -1,3 +1,2 @@
 -- What a listing that was laid out holds. The listing itself is the model's `listingOf`.
 pub mod Laid
-pub mod FirstSteps

@@ -9,9 +9,6 @@ ghost use Rattle.listing.specs.Laid.{Laid};
 use play::Halt;
 use table::Reading;
 
-mod lines;
-mod text;
-
 // A listing: the first `length` of the bytes. No listing is longer: 256 steps take at most 5 bytes each, the ending at most 13.
 pub struct Listing {
     pub bytes: [u8; 1293],

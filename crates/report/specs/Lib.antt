@@ -1,2 +1,2 @@
--- What the report's writers promise, and what writing a report asks.
+-- What writing a report asks.
 pub mod Parts

@@ -3,3 +3,4 @@ pub mod Written
 pub mod Loops
 pub mod Sections
 pub mod Stored
+pub mod Texts

@@ -10,7 +10,8 @@ use Rattle.model.specs.Site.{Site}
 use Rattle.model.specs.Report.{report}
 use Rattle.state.specs.State.{siteOf}
 use Rattle.writing.specs.Written.{Wrote}
-use Rattle.report.specs.Parts.{actorsBytes, actionsBytes, boxesBytes, mutexesBytes}
+use Rattle.actor_sections.specs.Parts.{actorsBytes, actionsBytes}
+use Rattle.queue_sections.specs.Parts.{boxesBytes, mutexesBytes}
 use Rattle.writing.proofs.Written.{rest, joined}
 use Rattle.writing.proofs.Sections.{Begun, first-section, left-at, left-room, last-sum, last-wrote, section-room, section-sum, next-section}
 use Rattle.report.proofs.write.Statement.{statement}

@@ -1,0 +1,3 @@
+-- The bytes of actors and communications, from the arrays.
+pub mod Actors
+pub mod Comms

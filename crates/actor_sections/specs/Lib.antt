@@ -1,0 +1,2 @@
+-- What the writers of actors and actions promise.
+pub mod Parts

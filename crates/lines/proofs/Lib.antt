@@ -1,0 +1,3 @@
+-- The lines' texts and lengths.
+pub mod Wordings
+pub mod StepLines

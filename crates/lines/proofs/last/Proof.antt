@@ -1,0 +1,90 @@
+-- `lines::last` meets its contract: the line of each ending. Assumes nothing.
+use Rattle.answers.specs.Answers.{endingAs}
+use Rattle.writing.specs.Written.{Wrote}
+use Rattle.answers.specs.declared.Ending.{Ending}
+use Rattle.model.specs.Listing.{line, endText}
+use borrow.Author.Needs.{needs}
+use mathlib.Core.Path.{subst, sym}
+use native.Mathlib.Omega.{arith}
+use Rattle.lines.proofs.last.Statement.{statement}
+use Rattle.lines.proofs.last.Tie as tie
+
+enum-told : tie.Need-enum-told
+enum-told c = search needs
+
+slice-aggregate-put : tie.Need-slice-aggregate-put
+slice-aggregate-put c = search needs
+
+put-requires : tie.Need-put-requires
+put-requires c κs = search needs
+
+enum-told-2 : tie.Need-enum-told-2
+enum-told-2 c = search needs
+
+slice-aggregate-put-2 : tie.Need-slice-aggregate-put-2
+slice-aggregate-put-2 c = search needs
+
+put-requires-2 : tie.Need-put-requires-2
+put-requires-2 c κs = search needs
+
+enum-told-3 : tie.Need-enum-told-3
+enum-told-3 c = search needs
+
+slice-aggregate-put-3 : tie.Need-slice-aggregate-put-3
+slice-aggregate-put-3 c = search needs
+
+put-requires-3 : tie.Need-put-requires-3
+put-requires-3 c κs = search needs
+
+same-length : tie.Need-same-length
+same-length c = search needs
+
+returns : tie.Need-returns
+returns c =
+    let s = c .before .before .before .before .before .before .before .before in
+    let p = c .before .before .put in (
+      subst (λ (x : Ending). Wrote (s .args .buf .now) (line (endText (endingAs x))) (p .last .1 .0) (p .result)) (sym (c .before .before .before .before .before .enum-told .given .1)) (p .ensures),
+      omega (arith, p .ensures .0),
+    )
+
+same-length-2 : tie.Need-same-length-2
+same-length-2 c = search needs
+
+returns-2 : tie.Need-returns-2
+returns-2 c =
+    let s = c .before .before .before .before .before .before .before .before in
+    let p = c .before .before .put2 in (
+      subst (λ (x : Ending). Wrote (s .args .buf .now) (line (endText (endingAs x))) (p .last .1 .0) (p .result)) (sym (c .before .before .before .before .before .enum-told2 .given .1)) (p .ensures),
+      omega (arith, p .ensures .0),
+    )
+
+same-length-3 : tie.Need-same-length-3
+same-length-3 c = search needs
+
+returns-3 : tie.Need-returns-3
+returns-3 c =
+    let s = c .before .before .before .before .before .before .before .before in
+    let p = c .before .before .put3 in (
+      subst (λ (x : Ending). Wrote (s .args .buf .now) (line (endText (endingAs x))) (p .last .1 .0) (p .result)) (sym (c .before .before .before .before .before .enum-told3 .given .1)) (p .ensures),
+      omega (arith, p .ensures .0),
+    )
+
+pub last-spec : {M : Type 1} → statement M
+last-spec =
+    tie.close
+    (tie.spec
+    enum-told
+    slice-aggregate-put
+    put-requires
+    enum-told-2
+    slice-aggregate-put-2
+    put-requires-2
+    enum-told-3
+    slice-aggregate-put-3
+    put-requires-3
+    same-length
+    returns
+    same-length-2
+    returns-2
+    same-length-3
+    returns-3)

@@ -1,0 +1,2 @@
+-- What the lines' writers promise one another.
+pub mod FirstSteps

@@ -1,0 +1,52 @@
+-- Bytes made of an array's elements from a place on: as the loops write them, part by part, and as the report has them, of a list.
+-- Assumes nothing.
+use mathlib.Core.Path.{_≡_, refl, _∙_, ap, sym}
+use mathlib.Core.List.{List, [], _∷_, _++_, map}
+use Prim.Native.Nat.{ℕ, zero, suc, _+_, _/_, _%_, _≤_}
+use native.Mathlib.Nat.{add-zero, add-suc}
+use native.Mathlib.Omega.{arith}
+use lib.ListN.{length, getD, take, drop, length-drop}
+use lib.Seq.{drop-cons, length-take-le}
+use Rattle.model.specs.Report.{parts, nameBytes}
+use Rattle.names.specs.InByte.{nameOf}
+use Rattle.queue_sections.specs.Parts.{stepsBytes}
+
+-- the bytes `g x` of each element x
+abbrev flat : (ℕ → List ℕ) → List ℕ → List ℕ
+flat g [] = []
+flat g (x ∷ l) = g x ++ flat g l
+
+flat-from : (g : ℕ → List ℕ) (l : List ℕ) (from n k : ℕ) → from + k + n ≤ length l → parts (λ i. g (getD l (from + i) 0)) n k ≡ flat g (take n (drop (from + k) l))
+flat-from g l from zero k h = refl
+flat-from g l from (suc n) k h =
+    ap (λ (r : List ℕ). g (getD l (from + k) 0) ++ r) (flat-from g l from n (suc k) (omega arith) ∙ ap (λ (j : ℕ). flat g (take n (drop j l))) (add-suc from k))
+    ∙ sym (ap (λ (r : List ℕ). flat g (take (suc n) r)) (drop-cons l (from + k) 0 (omega arith)))
+
+flat-at : (g : ℕ → List ℕ) (l : List ℕ) (from n : ℕ) → from + n ≤ length l → parts (λ i. g (getD l (from + i) 0)) n 0 ≡ flat g (take n (drop from l))
+flat-at g l from n h = flat-from g l from n 0 (omega arith) ∙ ap (λ (j : ℕ). flat g (take n (drop j l))) (add-zero from)
+
+-- a step's name, of the byte that holds it
+abbrev pub nameAt : List ℕ → ℕ → ℕ → List ℕ
+nameAt l from i = getD l (from + i) 0 / 32 ∷ getD l (from + i) 0 % 32 ∷ []
+
+names-flat : (l : List ℕ) → flat (λ x. x / 32 ∷ x % 32 ∷ []) l ≡ nameBytes (map nameOf l)
+names-flat [] = refl
+names-flat (x ∷ l) = ap (λ (r : List ℕ). x / 32 ∷ x % 32 ∷ r) (names-flat l)
+
+pub names-at : (l : List ℕ) (from n : ℕ) → from + n ≤ length l → parts (nameAt l from) n 0 ≡ stepsBytes l from n
+names-at l from n h = flat-at (λ x. x / 32 ∷ x % 32 ∷ []) l from n h ∙ names-flat (take n (drop from l))
+
+-- a byte itself
+abbrev pub byteOf : List ℕ → ℕ → ℕ → List ℕ
+byteOf l from i = getD l (from + i) 0 ∷ []
+
+bytes-flat : (l : List ℕ) → flat (λ x. x ∷ []) l ≡ l
+bytes-flat [] = refl
+bytes-flat (x ∷ l) = ap (λ (r : List ℕ). x ∷ r) (bytes-flat l)
+
+pub bytes-at : (l : List ℕ) (from n : ℕ) → from + n ≤ length l → parts (byteOf l from) n 0 ≡ take n (drop from l)
+bytes-at l from n h = flat-at (λ x. x ∷ []) l from n h ∙ bytes-flat (take n (drop from l))
+
+-- how long
+pub taken-length : (l : List ℕ) (from n : ℕ) → from + n ≤ length l → length (take n (drop from l)) ≡ n
+taken-length l from n h = length-take-le n (drop from l) (rw (length-drop from l) (omega arith))

@@ -1,0 +1,2 @@
+-- What the writers of mailboxes and mutexes promise.
+pub mod Parts

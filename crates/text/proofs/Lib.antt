@@ -1,0 +1,2 @@
+-- What text is written as.
+pub mod Digits
