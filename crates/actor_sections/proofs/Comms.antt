@@ -9,11 +9,6 @@ use Rattle.model.specs.Site.{Comm, unposted, pending, done, name}
 use Rattle.model.specs.Report.{long, commBytes}
 use Rattle.state.specs.State.{commOf, commsOf}
 
-pub comm-length : (x : Comm) → length (commBytes x) ≡ 8
-comm-length unposted = refl
-comm-length (pending value) = refl
-comm-length (done partner value) = refl
-
 -- an actor's action k
 pub comm-at : (comms : List ℕ) (actor k : ℕ) → k < 32 → commBytes (commOf (getD comms (32 * actor + k) 0)) ≡ commBytes (commsOf comms (name actor k))
 comm-at comms actor k h = rw (lt-ltb k 32 h)

@@ -6,7 +6,7 @@ use Prim.Native.Nat.{ℕ, zero, suc, _-_, _<_, _≤_}
 use native.Mathlib.Nat.{min-le-right}
 use native.Mathlib.Omega.{arith}
 use lib.ListN.{length, take, drop, replicate, length-map, length-take}
-use Rattle.table.specs.Outcome.{Outcome, accepted, refused, _⨾_}
+use Rattle.table.specs.Outcome.{Outcome, accepted, refused}
 use Rattle.table.specs.Read.{readOf}
 use Rattle.table.specs.Promise.{WellFormed}
 use Rattle.trace.specs.Machine.{Name}
@@ -28,14 +28,6 @@ use Rattle.answers.specs.declared.Readiness.{Readiness}
 use Rattle.listing.specs.declared.Listing.{Listing}
 use Rattle.listing.specs.Laid.{Laid}
 use Rattle.lines.specs.FirstSteps.{firstSteps}
-
--- ---- checks in order
-
-pub then-refused : (o after : Outcome) {n p : ℕ} → o ≡ refused n p → (o ⨾ after) ≡ refused n p
-then-refused o after e = ap (λ (x : Outcome). x ⨾ after) e
-
-pub then-accepted : (o after : Outcome) {p : Outcome} → o ≡ accepted → after ≡ p → (o ⨾ after) ≡ p
-then-accepted o after e f = ap (λ (x : Outcome). x ⨾ after) e ∙ f
 
 -- ---- the two outcomes
 

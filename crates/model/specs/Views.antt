@@ -28,7 +28,7 @@ pub data Look : Type 0 where
 pub record View : Type 0 where
   pub post : Post
   pub look : Look
-  -- it waits until the look finds something: only such a step is not always ready
+  -- kinds 0, 1, 2, 5, 9, 3, 4, 7 and 8 are always ready; a WaitAny and a MutexWait wait until the look finds something
   pub waiting : Bool
   -- the value that a Send keeps, from its actor's cells; 0 for the others
   pub sent : List ℕ → ℕ

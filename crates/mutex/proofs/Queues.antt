@@ -48,21 +48,7 @@ elem-behind i n l after h e =
     ∙ getD-drop n l (i - n) 0
     ∙ ap (λ (k : ℕ). getD l k 0) (sym far)
 
--- nothing changes where the value is the one that is there
-pub upd-same : {B : Type 0} (f : ℕ → B) (m : ℕ) (v : B) → v ≡ f m → f ≡ upd eqb f m v
-upd-same {B} f m v e = fun-ext (λ j. go j (which (eqb j m)))
-  where
-    go : (j : ℕ) → (eqb j m ≡ true) ⊎ (eqb j m ≡ false) → f j ≡ cond (eqb j m) v (f j)
-    go j (inl t) = ap f (eqb-true j m t) ∙ sym e ∙ sym (ap (λ (b : Bool). cond b v (f j)) t)
-    go j (inr t) = sym (ap (λ (b : Bool). cond b v (f j)) t)
-
 module _ (queues : List ℕ) (m : ℕ) (room : QueueRoom queues) (known : m < 8) where
-  pub queue-length : length (queuesOf queues m) ≡ sizeIn queues m
-  queue-length =
-      let short : sizeIn queues m ≤ 8 = room .bounded m in
-      let inside : sizeIn queues m ≤ length (drop (9 * m + 1) queues) = rw length-drop (omega arith) in
-      length-take-le (sizeIn queues m) (drop (9 * m + 1) queues) inside
-
   -- nothing before the mutex's nine bytes or behind them has changed
   module _ (after : List ℕ) (before : take (9 * m) after ≡ take (9 * m) queues) (behind : drop (9 * m + 9) after ≡ drop (9 * m + 9) queues) where
     -- no other queue changes

@@ -14,7 +14,10 @@ use Rattle.model.specs.Mutex.{join, leave}
 use Rattle.state.specs.State.{sizeIn, queuesOf, QueueRoom}
 use Rattle.mutex.specs.Parts.{Compacted}
 use Rattle.writing.proofs.Stored.{stored}
-use Rattle.mutex.proofs.Queues.{upd-same, part-before, part-behind, queue-length, changed, room-kept}
+use Rattle.model.proofs.Upd.{upd-self}
+use Rattle.model.proofs.Ports.{number-test}
+use Rattle.state.proofs.Queued.{queue-length}
+use Rattle.mutex.proofs.Queues.{part-before, part-behind, changed, room-kept}
 
 -- the queues are the model's with queue m changed, and have room
 abbrev pub Becomes : (queues after : List ℕ) → ℕ → List ℕ → Type 0
@@ -45,7 +48,7 @@ module _ (queues : List ℕ) (m a : ℕ) (room : QueueRoom queues) (known : m < 
         let queued : has (queuesOf queues m) a ≡ true = sym (ap (λ (q : List ℕ). has q a) counted) ∙ h in
         let same : join (queuesOf queues m) a ≡ queuesOf queues m
         = ap (λ (b : Bool). cond b (queuesOf queues m) (queuesOf queues m ++ (a ∷ []))) queued in
-        (upd-same (queuesOf queues) m (join (queuesOf queues m) a) same, room)
+        (sym (upd-self number-test (queuesOf queues) m (join (queuesOf queues m) a) (sym same)), room)
 
     module _ (absent : has (take n (drop (9 * m + 1) queues)) a ≡ false) (fits : length (join (queuesOf queues m) a) ≤ 8) where
       joins-end : join (queuesOf queues m) a ≡ queuesOf queues m ++ (a ∷ [])

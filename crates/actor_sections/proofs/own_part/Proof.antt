@@ -11,7 +11,8 @@ use Rattle.state.specs.State.{commsOf}
 use Rattle.writing.specs.Written.{Wrote}
 use Rattle.writing.proofs.Written.{rest}
 use Rattle.writing.proofs.Loops.{Turn, first-turn, next-at, next-room, next-sum, next-turn, all-wrote, all-length}
-use Rattle.actor_sections.proofs.Comms.{comm-length, comm-at}
+use Rattle.model.proofs.ReportBound.{comm-length}
+use Rattle.actor_sections.proofs.Comms.{comm-at}
 use Rattle.actor_sections.proofs.own_part.Statement.{statement}
 use Rattle.actor_sections.proofs.own_part.Tie as tie
 

@@ -1,9 +1,10 @@
 -- `listing::write` meets its contract: the checks are the reader's and the schedule's, and the lines are those of the steps run and of the ending.
 -- Assumes nothing.
 use Rattle.play.specs.Parts.{haltOf}
-use Rattle.listing.proofs.Outcomes.{then-refused, then-accepted, wrote-refusal, wrote-run, answerable, held-long}
+use Rattle.listing.proofs.Outcomes.{wrote-refusal, wrote-run, answerable, held-long}
 use Rattle.model.specs.Ready.{readyAnswer}
 use Rattle.model.specs.Schedule.{firstNumbers, checkSchedule}
+use Rattle.table.proofs.Checks.{then-refused, then-accepted}
 use Rattle.table.proofs.Readings.{refusing}
 use Rattle.table.specs.Answer.{outcome}
 use Rattle.table.specs.Read.{readOf}
@@ -37,7 +38,7 @@ returns c =
     let r = c .before .before .before .before .before .before .before .read in
     let w = c .before .before .refused in
     wrote-refusal (s .args .table .now) (s .args .schedule .now) (s .args .out .now) (w .last .1 .1 .0) (w .result) (c .before .before .before .before .before .number .result) (c .before .before .before .before .position .result)
-    (then-refused (readOf (s .args .table .now)) (checkSchedule firstNumbers (s .args .table .now) (s .args .schedule .now)) (sym (r .ensures .0) ∙ refusing (r .result) (c .before .before .before .before .before .before .match .keys2)))
+    (then-refused (readOf (s .args .table .now)) (checkSchedule firstNumbers (s .args .table .now) (s .args .schedule .now)) _ _ (sym (r .ensures .0) ∙ refusing (r .result) (c .before .before .before .before .before .before .match .keys2)))
     (c .before .before .before .before .before .number .ensures) (c .before .before .before .before .position .ensures) (w .ensures)
 
 play-requires : tie.Need-play-requires
@@ -86,7 +87,7 @@ returns-2 c =
     let end = p .ensures .ended (c .before .before .before .before .before .before .before .before .before .enum-told2 .given .1) in
     let w = c .before .before .run in (
       wrote-run (s .args .table .now) (s .args .schedule .now) (s .args .out .now) (w .last .1 .1 .1 .0) (w .result) (p .last .1 .1 .1 .1 .1 .1 .0) (c .before .before .before .before .before .answer .result)
-          (then-accepted (readOf (s .args .table .now)) (checkSchedule firstNumbers (s .args .table .now) (s .args .schedule .now)) (sym (c .before .before .before .before .before .before .before .before .before .before .before .before .before .before .before .before .before .before .before .read .ensures .0) ∙ ap outcome (c .before .before .before .before .before .before .before .before .before .before .before .before .before .before .before .before .before .enum-told .given .1)) (sym (p .ensures .halted firstNumbers) ∙ ap (haltOf firstNumbers) (c .before .before .before .before .before .before .before .before .before .enum-told2 .given .1)))
+          (then-accepted (readOf (s .args .table .now)) (checkSchedule firstNumbers (s .args .table .now) (s .args .schedule .now)) (sym (c .before .before .before .before .before .before .before .before .before .before .before .before .before .before .before .before .before .before .before .read .ensures .0) ∙ ap outcome (c .before .before .before .before .before .before .before .before .before .before .before .before .before .before .before .before .before .enum-told .given .1)) ∙ (sym (p .ensures .halted firstNumbers) ∙ ap (haltOf firstNumbers) (c .before .before .before .before .before .before .before .before .before .enum-told2 .given .1)))
           (end .names-right)
           (c .before .before .before .before .before .answer .ensures (p .last .1 .1 .1 .0) (p .last .1 .1 .1 .1 .0) ∙ ap (readyAnswer (s .args .table .now)) (end .site))
           (w .ensures .0),
@@ -103,7 +104,7 @@ returns-3 c =
     let w = c .before .before .refused2 in
     let stop = c .before .before .before .before .before .before .before .halt .given .0 .0 in
     wrote-refusal (s .args .table .now) (s .args .schedule .now) (s .args .out .now) (w .last .1 .1 .0) (w .result) (c .before .before .before .before .before .first-number .result) (c .before .before .before .before .position2 .result)
-    (then-accepted (readOf (s .args .table .now)) (checkSchedule firstNumbers (s .args .table .now) (s .args .schedule .now)) (sym (c .before .before .before .before .before .before .before .before .before .before .before .before .before .before .before .before .before .read .ensures .0) ∙ ap outcome (c .before .before .before .before .before .before .before .before .before .before .before .before .before .before .before .enum-told .given .1)) (sym (p .ensures .halted firstNumbers) ∙ ap (haltOf firstNumbers) (c .before .before .before .before .before .before .before .halt .given .1) ∙ stop-refused firstNumbers stop))
+    (then-accepted (readOf (s .args .table .now)) (checkSchedule firstNumbers (s .args .table .now) (s .args .schedule .now)) (sym (c .before .before .before .before .before .before .before .before .before .before .before .before .before .before .before .before .before .read .ensures .0) ∙ ap outcome (c .before .before .before .before .before .before .before .before .before .before .before .before .before .before .before .enum-told .given .1)) ∙ (sym (p .ensures .halted firstNumbers) ∙ ap (haltOf firstNumbers) (c .before .before .before .before .before .before .before .halt .given .1) ∙ stop-refused firstNumbers stop))
     (c .before .before .before .before .before .first-number .ensures) (c .before .before .before .before .position2 .ensures .0) (w .ensures)
 
 pub write-spec : {M : Type 1} → statement M

@@ -6,7 +6,8 @@ use native.Mathlib.Omega.{arith}
 use borrow.Author.Needs.{needs}
 use lib.ListN.{take, drop}
 use Rattle.writing.specs.Written.{Wrote}
-use Rattle.queue_sections.proofs.Mutexes.{queue-length, mutex-at}
+use Rattle.state.proofs.Queued.{queue-length}
+use Rattle.queue_sections.proofs.Mutexes.{mutex-at}
 use Rattle.queue_sections.proofs.mutex_part.Statement.{statement}
 use Rattle.queue_sections.proofs.mutex_part.Tie as tie
 
@@ -30,7 +31,7 @@ queue-requires c κs =
     let n = c .before .wide .ensures .0 in (
       r .long,
       omega (arith, s .pre .1, r .bounded (x .m), n),
-      omega (arith, s .pre .2, queue-length (x .queues .now) r (x .m) (s .pre .1), n),
+      omega (arith, s .pre .2, queue-length (x .queues .now) (x .m) r (s .pre .1), n),
     )
 
 same-length : tie.Need-same-length
