@@ -1,11 +1,11 @@
 -- A communication's eight bytes, from the number that holds it.
 -- Assumes nothing.
-use mathlib.Core.Path.{_≡_, refl}
+use mathlib.Core.Path.{_≡_}
 use mathlib.Core.List.{List, _∷_}
 use Prim.Native.Nat.{ℕ, _+_, _*_, _/_, _%_, _<_}
 use borrow.Author.Tests.{eq-eqb, ne-eqb, lt-ltb}
-use lib.ListN.{length, getD}
-use Rattle.model.specs.Site.{Comm, unposted, pending, done, name}
+use lib.ListN.{getD}
+use Rattle.model.specs.Site.{name}
 use Rattle.model.specs.Report.{long, commBytes}
 use Rattle.state.specs.State.{commOf, commsOf}
 

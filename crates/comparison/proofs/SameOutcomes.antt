@@ -10,7 +10,7 @@ use Rattle.table.specs.Read.{readOf}
 use Rattle.trace.specs.Same.{equivalent}
 use Rattle.model.specs.Site.{initial}
 use Rattle.model.specs.Schedule.{machine, firstNumbers, secondNumbers, checkSchedule}
-use Rattle.model.specs.Calls.{Result, gives, refuses, answer, SameVerdict, same as alike, different, sameChecks, sameOf}
+use Rattle.model.specs.Calls.{gives, refuses, answer, same as alike, different, sameChecks, sameOf}
 use Rattle.model.proofs.Checks.{then-both, answer-given}
 use Rattle.answers.specs.declared.SameAnswer.{SameAnswer}
 use Rattle.answers.specs.Answers.{sameResult}

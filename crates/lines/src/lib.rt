@@ -1,5 +1,4 @@
 // The lines of a listing. Each writer puts its lines at the front of the part that it is lent, and answers with their length.
-ghost use mathlib.Core.Path.{_≡_};
 ghost use mathlib.Core.List.{_++_};
 ghost use Prim.Native.Nat.{_*_, _≤_, _/_, _%_};
 ghost use lib.ListN.{length};

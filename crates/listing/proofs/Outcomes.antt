@@ -1,20 +1,19 @@
 -- The listing by what is known of its checks: the refusal's line, or the lines of the steps and of the ending that the engine found.
 -- Assumes nothing.
-use mathlib.Core.Path.{_≡_, refl, _∙_, ap, sym, subst}
+use mathlib.Core.Path.{_≡_, _∙_, ap, sym, subst}
 use mathlib.Core.List.{List, _++_, map}
-use Prim.Native.Nat.{ℕ, zero, suc, _-_, _<_, _≤_}
+use Prim.Native.Nat.{ℕ, zero, suc, _-_, _≤_}
 use native.Mathlib.Nat.{min-le-right}
 use native.Mathlib.Omega.{arith}
 use lib.ListN.{length, take, drop, replicate, length-map, length-take}
 use Rattle.table.specs.Outcome.{Outcome, accepted, refused}
-use Rattle.table.specs.Read.{readOf}
 use Rattle.table.specs.Promise.{WellFormed}
 use Rattle.trace.specs.Machine.{Name}
 use Rattle.trace.specs.Schedule.{names}
 use Rattle.trace.proofs.Run.{names-length}
-use Rattle.model.specs.Site.{Site, initial}
+use Rattle.model.specs.Site.{initial}
 use Rattle.model.specs.Ready.{Ending, ReadyAnswer, readyAnswer, ending}
-use Rattle.model.specs.Schedule.{machine, endState, firstNumbers, checkSchedule}
+use Rattle.model.specs.Schedule.{machine, endState}
 use Rattle.model.specs.Calls.{readyChecks}
 use Rattle.model.specs.Listing.{line, endText, refusedText, stepLines, runLines, linesOf, listingOf, tableRead, scheduleRead}
 use Rattle.model.proofs.Beginnings.{beginnings-decide}

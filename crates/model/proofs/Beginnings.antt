@@ -1,17 +1,17 @@
 -- The beginnings of the two files decide the listing: 2,085 bytes of the table, 257 of the schedule. A longer table is refused by its first 36 bytes
 -- or 5; of a longer schedule one of the first 257 entries is refused, and the first refusal decides.
 -- Assumes nothing.
-use mathlib.Core.Path.{_≡_, refl, _∙_, ap, sym, subst}
-use mathlib.Core.Bool.{Bool, true, false}
+use mathlib.Core.Path.{_≡_, refl, _∙_, ap}
+use mathlib.Core.Bool.{true, false}
 use mathlib.Core.Logic.{_⊎_, inl, inr}
 use mathlib.Core.List.{List, [], _∷_, _++_}
-use Prim.Native.Nat.{ℕ, suc, _<_, _≤_}
+use Prim.Native.Nat.{ℕ, suc, _<_}
 use native.Mathlib.Omega.{arith}
 use borrow.Author.Tests.{leb-true, leb-false}
 use lib.Dec.{leb}
 use lib.ListN.{length, take, drop, take-append-drop}
 use lib.Seq.{take-all, length-take-le, getD-take}
-use Rattle.table.specs.Outcome.{Outcome, accepted, refused, _⨾_}
+use Rattle.table.specs.Outcome.{Outcome, accepted, refused}
 use Rattle.table.specs.Read.{readOf}
 use Rattle.table.proofs.Checks.{then-left, then-right}
 use Rattle.table.proofs.Promise.{promised}
@@ -19,7 +19,6 @@ use Rattle.trace.proofs.Bools.{which}
 use Rattle.model.specs.Site.{Site, initial}
 use Rattle.model.specs.Step.{step}
 use Rattle.model.specs.Schedule.{firstNumbers, checkEntry, checkFrom, checkSchedule}
-use Rattle.model.specs.Calls.{readyChecks}
 use Rattle.model.specs.Listing.{runLines, linesOf, listingOf, tableRead, scheduleRead, BeginningsDecide}
 use Rattle.model.proofs.Checks.{then-both, checks-taken}
 use Rattle.model.proofs.ReportBound.{entries-room}

@@ -3,7 +3,7 @@
 use Prim.Native.Nat.{ℕ}
 use mathlib.Core.Path.{_≡_}
 use mathlib.Core.List.{List, [], _∷_, map}
-use lib.ListN.{set, take}
+use lib.ListN.{set}
 use Rattle.model.specs.Listing.{listingOf}
 use Rattle.model.specs.Cases.{tableA}
 use Rattle.model.specs.Examples.{site, receive, waitAny}

@@ -1,25 +1,24 @@
 -- The calls' outcomes by what is known of their checks: refused, or accepted with the state that the engine's arrays hold.
 -- Assumes nothing.
-use mathlib.Core.Path.{_≡_, refl, _∙_, ap, sym, subst}
+use mathlib.Core.Path.{_≡_, _∙_, ap, sym, subst}
 use mathlib.Core.List.{List, _++_}
 use mathlib.Core.Logic.{_⊎_, inl, inr}
-use mathlib.Core.Bool.{Bool, true, false}
+use mathlib.Core.Bool.{true, false}
 use Prim.Native.Nat.{ℕ, _<_, _≤_}
 use native.Mathlib.Omega.{arith}
 use borrow.Author.Tests.{le-leb, lt-leb, ltb-true, ltb-false}
-use lib.Dec.{leb, ltb}
-use lib.ListN.{length, getD, drop}
-use Rattle.table.specs.Outcome.{Outcome, accepted, refused, demand, _⨾_}
-use Rattle.table.specs.Format.{actorsOf, countOf}
-use Rattle.table.specs.Read.{readOf}
+use lib.Dec.{ltb}
+use lib.ListN.{length, drop}
+use Rattle.table.specs.Outcome.{Outcome, accepted, refused}
+use Rattle.table.specs.Format.{actorsOf}
 use Rattle.table.specs.Promise.{WellFormed}
 use Rattle.trace.specs.Schedule.{accepted as taken}
 use Rattle.trace.proofs.Bools.{which}
-use Rattle.model.specs.Site.{Site, Actor as Record, initial}
+use Rattle.model.specs.Site.{Site, initial}
 use Rattle.model.specs.Ready.{ReadyAnswer, readyAnswer}
 use Rattle.model.specs.Report.{report}
 use Rattle.model.specs.Schedule.{machine, endState, firstNumbers, checkSchedule}
-use Rattle.model.specs.Calls.{Result, gives, refuses, answer, lentAfter, runChecks, runOf, readyChecks, readyOf}
+use Rattle.model.specs.Calls.{gives, refuses, answer, lentAfter, runChecks, runOf, readyChecks, readyOf}
 use Rattle.model.proofs.Checks.{checks-taken}
 use Rattle.model.proofs.Reached.{reached-end}
 use Rattle.model.proofs.ReportBound.{reports-fit}

@@ -4,11 +4,11 @@ use mathlib.Core.Path.{_≡_, _∙_, ap, sym}
 use mathlib.Core.Bool.{Bool, true, false, _&&_, cond}
 use mathlib.Core.List.{List}
 use Prim.Native.Nat.{ℕ}
-use Rattle.table.specs.Outcome.{Outcome, accepted, refused, demand, _⨾_}
+use Rattle.table.specs.Outcome.{Outcome, accepted, refused, demand}
 use Rattle.table.specs.Read.{readOf}
 use Rattle.trace.specs.Machine.{Name}
 use Rattle.model.specs.Pair.{depends}
-use Rattle.model.specs.Calls.{gives, refuses, answer, inTable, PairVerdict, independent, dependent, pairChecks, pairOf}
+use Rattle.model.specs.Calls.{gives, refuses, answer, inTable, independent, dependent, pairChecks, pairOf}
 use Rattle.model.proofs.Checks.{answer-given}
 use Rattle.table.proofs.Checks.{then-refused, then-accepted}
 

@@ -4,13 +4,13 @@
 use mathlib.Core.Path.{_≡_, refl, _∙_, ap, sym, subst}
 use mathlib.Core.Bool.{Bool, true, false, cond}
 use mathlib.Core.List.{List, _++_}
-use Prim.Native.Nat.{ℕ, _+_, _*_, _-_, _/_, _^_, _<_, _≤_}
+use Prim.Native.Nat.{ℕ, _+_, _*_, _-_, _/_, _<_, _≤_}
 use native.Mathlib.Omega.{arith}
 use native.Mathlib.Nat.{mul-le-mul}
 use borrow.Author.Tests.{lt-leb, le-leb}
 use lib.Dec.{leb}
 use lib.ListN.{length, drop}
-use Rattle.table.specs.Outcome.{Outcome, accepted, refused, demand, _⨾_}
+use Rattle.table.specs.Outcome.{Outcome, accepted, refused, demand}
 use Rattle.table.specs.Read.{readOf}
 use Rattle.table.proofs.Checks.{then-left, then-right, then-refused, then-accepted}
 use Rattle.trace.specs.Same.{equivalent}

@@ -2,8 +2,7 @@
 -- Assumes nothing.
 use mathlib.Core.Path.{_≡_, refl, _∙_, ap, sym, subst, fun-ext}
 use mathlib.Core.Bool.{Bool, true, false, cond}
-use mathlib.Core.Logic.{_⊎_, inl, inr}
-use mathlib.Core.List.{List, [], _∷_, map}
+use mathlib.Core.List.{List, [], map}
 use Prim.Native.Nat.{ℕ, zero, suc, _+_, _*_, _^_, _<_, _≤_}
 use native.Mathlib.Omega.{arith}
 use lib.Dec.{ltb, lit<}
@@ -12,18 +11,16 @@ use lib.Seq.{take-length}
 use Rattle.table.specs.Outcome.{accepted as fine}
 use Rattle.trace.specs.Machine.{Name}
 use Rattle.trace.specs.Schedule.{accepted, names}
-use Rattle.trace.proofs.Bools.{which}
-use Rattle.model.specs.Site.{Site, Actor as Record, Port, Comm, unposted, initial}
-use Rattle.model.specs.Schedule.{machine, endState, RefusalNumbers, checkFrom, checkSchedule}
+use Rattle.model.specs.Site.{Port, unposted, initial}
+use Rattle.model.specs.Schedule.{machine, endState, RefusalNumbers, checkSchedule}
 use Rattle.model.proofs.Checks.{taken-checks}
 use Rattle.model.proofs.ReportBound.{entries-room}
 use Rattle.names.specs.InByte.{nameOf}
-use Rattle.state.specs.State.{recordOf, recordsOf, freshActor, commOf, commsOf, waitingOf, queuesOf, siteOf, portNumber, MailRoom, QueueRoom, EightCells}
+use Rattle.state.specs.State.{recordOf, recordsOf, freshActor, commOf, commsOf, waitingOf, queuesOf, siteOf, portNumber}
 use Rattle.play.specs.Parts.{Fresh, Ended}
 use Rattle.state.specs.declared.Actor.{Actor}
-use Rattle.play.specs.declared.Halt.{Halt}
 use Rattle.play.specs.declared.Played.{Played}
-use Rattle.play.proofs.Playing.{reached, Playing}
+use Rattle.play.proofs.Playing.{Playing}
 
 pub getD-alike : {A : Type 0} (n i : ℕ) (x : A) → getD (replicate n x) i x ≡ x
 getD-alike zero i x = refl

@@ -1,10 +1,9 @@
 -- One entry of a schedule, with the actor and its record as the code has them.
 -- Assumes nothing.
-use mathlib.Core.Path.{_≡_, refl, _∙_, ap, sym, subst}
-use mathlib.Core.Bool.{Bool, true, false}
-use mathlib.Core.List.{List, [], _∷_}
-use Prim.Native.Nat.{ℕ, zero, suc, _+_, _*_, _<_, _≤_}
-use native.Mathlib.Nat.{le-of-suc-le-suc, not-suc-le-zero}
+use mathlib.Core.Path.{_≡_, sym, subst}
+use mathlib.Core.Bool.{true, false}
+use mathlib.Core.List.{List}
+use Prim.Native.Nat.{ℕ, _+_, _*_, _<_, _≤_}
 use lib.ListN.{length, getD, set}
 use Rattle.table.specs.Outcome.{refused}
 use Rattle.table.specs.Format.{actorsOf, countOf}
@@ -12,10 +11,9 @@ use Rattle.model.specs.Step.{passes}
 use Rattle.model.specs.Schedule.{RefusalNumbers, checkSchedule}
 use Rattle.state.specs.State.{freshActor, mailOf, queuesOf, nextOf, seenFrom}
 use Rattle.step.specs.Parts.{Steppable, StepTaken}
-use Rattle.play.specs.Parts.{Ended, PlayedRight, haltOf}
+use Rattle.play.specs.Parts.{PlayedRight, haltOf}
 use Rattle.state.specs.declared.Actor.{Actor}
 use Rattle.step.specs.declared.Stepped.{Stepped}
-use Rattle.play.specs.declared.Halt.{Halt}
 use Rattle.play.specs.declared.Halt.the-variants.{End}
 use Rattle.play.specs.declared.Played.{Played}
 use Rattle.play.proofs.Playing.{Playing}

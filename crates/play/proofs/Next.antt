@@ -1,26 +1,26 @@
 -- From one entry of a schedule to the next: what a step may rely on, what it leaves, and what an entry that is refused makes of the schedule's checks.
 -- Assumes nothing.
-use mathlib.Core.Path.{_≡_, refl, _∙_, ap, ap₂, sym, subst, fun-ext}
-use mathlib.Core.Bool.{Bool, true, false, not, _&&_, _||_}
+use mathlib.Core.Path.{_≡_, refl, _∙_, ap, ap₂, sym, subst}
+use mathlib.Core.Bool.{Bool, true, false, not, _||_}
 use mathlib.Core.Logic.{_⊎_, inl, inr}
 use mathlib.Core.List.{List, [], _∷_, _++_, map}
-use Prim.Native.Nat.{ℕ, zero, suc, _+_, _*_, _<_, _≤_}
+use Prim.Native.Nat.{ℕ, suc, _+_, _*_, _<_, _≤_}
 use native.Mathlib.Nat.{zero-add}
 use native.Mathlib.Numerals.{add-one}
 use native.Mathlib.Omega.{arith}
 use borrow.Author.Tests.{lt-ltb, le-ltb, eqb-true, eqb-false}
 use lib.Dec.{eqb, ltb}
-use lib.ListN.{length, getD, take, drop, set, length-set, length-append, take-append-drop}
-use lib.Seq.{take-suc, drop-cons, take-suc-set, take-length, getD-set-same, getD-set-other, length-take-le, take-all}
+use lib.ListN.{length, getD, take, drop, set, length-set, take-append-drop}
+use lib.Seq.{take-suc, drop-cons, take-suc-set, getD-set-same, getD-set-other, length-take-le}
 use Rattle.table.specs.declared.Action.{Action}
-use Rattle.table.specs.Outcome.{Outcome, accepted as fine, refused, demand, _⨾_}
+use Rattle.table.specs.Outcome.{refused}
 use Rattle.table.specs.Format.{actorsOf, countOf}
 use Rattle.table.specs.Decode.{actionOf}
 use Rattle.trace.specs.Machine.{Name}
 use Rattle.trace.specs.Schedule.{accepted, final, names}
 use Rattle.trace.proofs.Bools.{which}
-use Rattle.model.specs.Site.{Site, Mail, Actor as Record, upd, name, initial}
-use Rattle.model.specs.Views.{looks, posts, sent, waits}
+use Rattle.model.specs.Site.{Site, Actor as Record, upd, name, initial}
+use Rattle.model.specs.Views.{looks, waits}
 use Rattle.model.specs.Mutex.{join}
 use Rattle.model.specs.Local.{Seen, see, isSeen, local}
 use Rattle.model.specs.Step.{unfinished, passes, ready, step}
@@ -29,7 +29,7 @@ use Rattle.model.proofs.Reached.{reached-end}
 use Rattle.model.proofs.ReportBoundCells.{cellsAfter-length}
 use Rattle.model.proofs.ReportBound.{entries-room}
 use Rattle.names.specs.InByte.{nameOf}
-use Rattle.state.specs.State.{recordOf, recordsOf, freshActor, mailOf, queuesOf, siteOf, MailRoom, QueueRoom, EightCells, nextOf, seenFrom}
+use Rattle.state.specs.State.{recordOf, recordsOf, freshActor, mailOf, queuesOf, siteOf, EightCells, nextOf, seenFrom}
 use Rattle.step.specs.Parts.{Steppable, StepTaken}
 use Rattle.state.specs.declared.Actor.{Actor}
 use Rattle.step.specs.declared.Stepped.{Stepped}

@@ -1,48 +1,32 @@
 -- A schedule in the middle of its run: the arrays hold the state that the entries so far have left. What the first entry that is refused, one more
 -- step, and the end make of that.
 -- Assumes nothing.
-use mathlib.Core.Path.{_≡_, refl, _∙_, ap, ap₂, sym, subst, fun-ext}
-use mathlib.Core.Bool.{Bool, true, false, cond, _&&_}
-use mathlib.Core.Logic.{_⊎_, inl, inr, _≢_}
-use mathlib.Core.List.{List, [], _∷_, _++_, map}
-use Prim.Native.Nat.{ℕ, zero, suc, _+_, _*_, _<_, _≤_}
-use native.Mathlib.Nat.{zero-add}
-use native.Mathlib.Numerals.{add-one}
+use mathlib.Core.Path.{_≡_, refl, _∙_, ap, fun-ext}
+use mathlib.Core.Bool.{true, false}
+use mathlib.Core.Logic.{_⊎_, inl, inr}
+use mathlib.Core.List.{List, map}
+use Prim.Native.Nat.{ℕ, _+_, _<_, _≤_}
 use native.Mathlib.Omega.{arith}
-use borrow.Author.Tests.{lt-ltb, le-ltb, eq-eqb, eqb-true, eqb-false, ne-eqb}
-use lib.Dec.{eqb, ltb}
-use lib.ListN.{length, getD, take, drop, set, replicate, length-set, length-take, take-append-drop}
-use lib.Seq.{take-suc, drop-cons, take-suc-set, take-length, getD-set-same, getD-set-other, length-take-le}
-use Rattle.table.specs.declared.Action.{Action}
-use Rattle.table.specs.declared.Action.the-variants.{Lock}
-use Rattle.table.specs.Outcome.{Outcome, accepted as fine, refused, demand, _⨾_}
-use Rattle.table.specs.Format.{actorsOf, countOf}
-use Rattle.table.specs.Decode.{actionOf}
+use borrow.Author.Tests.{eq-eqb, eqb-true, eqb-false}
+use lib.Dec.{eqb}
+use lib.ListN.{length, getD, take, set}
+use lib.Seq.{getD-set-same, getD-set-other}
+use Rattle.table.specs.Format.{actorsOf}
 use Rattle.table.specs.Promise.{WellFormed}
-use Rattle.trace.specs.Machine.{Name}
 use Rattle.trace.specs.Schedule.{accepted, final, names}
 use Rattle.trace.specs.Order.{has}
 use Rattle.trace.proofs.Bools.{which}
-use Rattle.model.specs.Site.{Site, Mail, Actor as Record, upd, name, initial}
-use Rattle.model.specs.Views.{Look, blind, communications, mutexes, joins, looks, posts, sent}
+use Rattle.model.specs.Site.{Site, upd, initial}
+use Rattle.model.specs.Views.{joins}
 use Rattle.model.specs.Mutex.{join, queueing}
-use Rattle.model.specs.Mail.{mailing}
-use Rattle.model.specs.Local.{see, local}
-use Rattle.model.specs.Step.{unfinished, passes, ready, step, perform}
-use Rattle.model.specs.Ready.{howMany}
-use Rattle.model.specs.Schedule.{machine, endState, RefusalNumbers, checkEntry, checkFrom, checkSchedule}
+use Rattle.model.specs.Schedule.{machine}
 use Rattle.model.specs.Reached.{Once, Reached}
 use Rattle.model.proofs.ReportBoundQueues.{once-count, once-queueing, queueing-members}
 use Rattle.model.proofs.ReportBoundCounts.{howMany-most}
 use Rattle.model.proofs.ReportBoundLengths.{stepped-actor}
-use Rattle.model.proofs.ReportBound.{entries-room}
 use Rattle.names.specs.InByte.{nameOf}
-use Rattle.state.specs.State.{recordOf, recordsOf, freshActor, tailIn, mailOf, queuesOf, siteOf, MailRoom, QueueRoom, EightCells, nextOf, seenFrom}
-use Rattle.step.specs.Parts.{Steppable, StepTaken, Took}
+use Rattle.state.specs.State.{recordOf, recordsOf, freshActor, tailIn, siteOf, MailRoom, QueueRoom, EightCells}
 use Rattle.state.specs.declared.Actor.{Actor}
-use Rattle.step.specs.declared.Stepped.{Stepped}
-use Rattle.names.proofs.InByte.{name-byte}
-use Rattle.play.proofs.Prefix.{accepted-more, final-more, names-more, checks-after}
 
 -- the state after the first i entries
 abbrev pub reached : List ℕ → List ℕ → ℕ → Site

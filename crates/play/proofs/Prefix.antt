@@ -1,20 +1,17 @@
 -- One more entry of a schedule: accepted, the state it leaves and its name; and the checks of a schedule whose first entries are accepted.
 -- Assumes nothing.
 use mathlib.Core.Path.{_≡_, refl, _∙_, ap, sym}
-use mathlib.Core.Bool.{Bool, true, false, _&&_}
+use mathlib.Core.Bool.{true}
 use mathlib.Core.List.{List, [], _∷_, _++_}
-use Prim.Native.Nat.{ℕ, zero, suc, _+_}
+use Prim.Native.Nat.{ℕ, suc, _+_}
 use native.Mathlib.Nat.{add-zero, add-suc, suc-add}
-use lib.Dec.{ltb}
 use lib.ListN.{length}
-use Rattle.table.specs.Outcome.{Outcome, demand, _⨾_}
-use Rattle.table.specs.Format.{actorsOf}
 use Rattle.trace.specs.Machine.{Machine, Name, nameOf}
 use Rattle.trace.specs.Schedule.{accepted, final, names}
 use Rattle.trace.proofs.Bools.{and-left, and-right}
 use Rattle.model.specs.Site.{Site}
-use Rattle.model.specs.Step.{ready, unfinished}
-use Rattle.model.specs.Schedule.{machine, RefusalNumbers, checkEntry, checkFrom}
+use Rattle.model.specs.Step.{ready}
+use Rattle.model.specs.Schedule.{machine, RefusalNumbers, checkFrom}
 use Rattle.model.proofs.Checks.{ready-parts}
 
 module _ (M : Machine) where

@@ -1,5 +1,4 @@
 // A schedule from a fresh site: each entry's step in turn, as far as the first entry that is refused.
-ghost use mathlib.Core.Path.{_≡_};
 ghost use Prim.Native.Nat.{_<_};
 ghost use Rattle.play.specs.Parts.{Fresh, PlayedRight};
 use answers::Stop;

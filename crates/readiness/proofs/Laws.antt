@@ -1,13 +1,13 @@
 -- Readiness over the arrays: one actor's look, the mask from the last actor down, and whether everyone is finished.
 -- Assumes nothing.
 use mathlib.Core.Path.{_≡_, refl, _∙_, ap, ap₂, sym}
-use mathlib.Core.Bool.{Bool, true, false, not, _&&_, _||_, cond}
+use mathlib.Core.Bool.{Bool, true, false, not, _&&_, _||_}
 use mathlib.Core.List.{List}
 use Prim.Native.Nat.{ℕ, suc, _+_, _-_, _*_, _^_, _<_, _≤_}
 use native.Mathlib.Numerals.{add-one}
 use native.Mathlib.Omega.{arith}
-use borrow.Author.Tests.{lt-ltb, le-ltb, eq-eqb, ne-eqb}
-use lib.Dec.{ltb, eqb, lit≤}
+use borrow.Author.Tests.{lt-ltb, le-ltb}
+use lib.Dec.{ltb}
 use lib.ListN.{getD}
 use lib.Pow.{pow-mono}
 use lib.Count.{ones}
@@ -15,11 +15,11 @@ use Rattle.table.specs.declared.Action.{Action}
 use Rattle.table.specs.Format.{actorsOf, countOf}
 use Rattle.model.specs.Site.{Site}
 use Rattle.model.specs.Views.{looks, waits}
-use Rattle.model.specs.Local.{Seen, see, isSeen}
-use Rattle.model.specs.Step.{passes, ready, unfinished}
-use Rattle.model.specs.Ready.{bit, maskOf, howMany, all, Ending, finished, stuck, going, endingOf, ReadyAnswer, readyMask, readyCount, readyAnswer}
+use Rattle.model.specs.Local.{Seen, isSeen}
+use Rattle.model.specs.Step.{passes, ready}
+use Rattle.model.specs.Ready.{bit, maskOf, all, endingOf, readyMask, readyCount, readyAnswer}
 use Rattle.model.proofs.ReadyMask.{mask-small, mask-right}
-use Rattle.state.specs.State.{mailOf, queuesOf, siteOf, freshActor, nextOf, seenFrom}
+use Rattle.state.specs.State.{mailOf, queuesOf, freshActor, nextOf, seenFrom}
 use Rattle.readiness.specs.Parts.{siteWith, looksReady, everyoneFinished}
 use Rattle.answers.specs.Answers.{endingAs, readinessOf}
 use Rattle.state.specs.declared.Actor.{Actor}

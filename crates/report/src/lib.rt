@@ -1,5 +1,4 @@
 // The state report: each section goes into the rest of the lent bytes after the section before it.
-ghost use mathlib.Core.Path.{_≡_};
 ghost use Rattle.model.specs.Report.{report};
 ghost use Rattle.state.specs.State.{siteOf};
 ghost use Rattle.writing.specs.Written.{Wrote};

@@ -2,14 +2,14 @@
 -- Assumes nothing: these are definitions.
 use Prim.Native.Nat.{ℕ, _+_, _-_, _*_, _/_, _%_, _^_, _<_, _≤_}
 use mathlib.Core.Path.{_≡_}
-use mathlib.Core.Bool.{Bool, cond}
+use mathlib.Core.Bool.{cond}
 use mathlib.Core.List.{List, map}
 use lib.Dec.{eqb, ltb}
 use lib.ListN.{length, getD, take, drop, replicate}
 use Rattle.table.specs.declared.Action.{Action}
 use Rattle.table.specs.Decode.{actionOf}
 use Rattle.trace.specs.Machine.{Name}
-use Rattle.model.specs.Site.{Actor as Record, Side, sends, receives, Port, Comm, unposted, pending, done, Mail, Site, name}
+use Rattle.model.specs.Site.{Actor as Record, Side, sends, receives, Port, Comm, unposted, pending, done, Mail, Site}
 use Rattle.names.specs.InByte.{nameOf}
 use Rattle.state.specs.declared.Actor.{Actor}
 

@@ -1,6 +1,6 @@
 -- What a look finds is one of the listed numbers, at a place within the list.
 -- Assumes nothing.
-use mathlib.Core.Path.{_≡_, refl, _∙_, ap, sym, subst}
+use mathlib.Core.Path.{_≡_, subst}
 use mathlib.Core.Bool.{Bool, true, false, cond}
 use mathlib.Core.Logic.{_⊎_, inl, inr}
 use mathlib.Core.List.{List, [], _∷_}
@@ -8,7 +8,6 @@ use Prim.Native.Nat.{ℕ, zero, suc, suc-le-suc, _+_, _<_, _≤_}
 use native.Mathlib.Nat.{le-of-suc-le-suc, not-suc-le-zero}
 use native.Mathlib.Omega.{arith}
 use lib.ListN.{length, getD, take}
-use lib.Dec.{lit≤}
 use Rattle.trace.proofs.Bools.{which}
 use Rattle.table.specs.declared.Numbers.{Numbers}
 use Rattle.table.specs.Promise.{number}

@@ -1,25 +1,16 @@
 -- What one step leaves, by plain facts: the record after it, what it picks up, and what its action's range gives.
 -- Assumes nothing.
-use mathlib.Core.Path.{_≡_, refl, _∙_, ap, ap₂, sym, subst}
+use mathlib.Core.Path.{_≡_, refl, _∙_, ap, sym}
 use mathlib.Core.Bool.{Bool, true, false}
 use mathlib.Core.List.{List}
-use Prim.Native.Nat.{ℕ, suc, _+_, _*_, _/_, _%_, _<_, _≤_}
+use Prim.Native.Nat.{ℕ, suc, _+_}
 use native.Mathlib.Numerals.{add-one}
 use native.Mathlib.Omega.{arith}
-use lib.ListN.{length, getD, set}
 use Rattle.table.specs.declared.Action.{Action}
 use Rattle.table.specs.declared.Action.the-variants.{Set, Add, Lesser, Send, Receive, TestAny, WaitAny, Lock, Unlock, MutexTest, MutexWait}
-use Rattle.table.specs.Format.{actorsOf, countOf}
-use Rattle.table.specs.Decode.{actionOf}
-use Rattle.table.specs.Promise.{WellFormed, InRange}
-use Rattle.trace.specs.Machine.{Name}
-use Rattle.model.specs.Site.{name}
 use Rattle.model.specs.Views.{pickUp}
-use Rattle.model.specs.Local.{Seen, unseen, seen, pickUpSeen, cellsAfter, local}
-use Rattle.state.specs.State.{recordOf, nextOf}
-use Rattle.names.specs.InByte.{nameOf}
-use Rattle.step.specs.Parts.{Steppable}
-use Rattle.look.specs.Parts.{seenOf}
+use Rattle.model.specs.Local.{Seen, seen, pickUpSeen, cellsAfter, local}
+use Rattle.state.specs.State.{recordOf}
 use Rattle.state.specs.declared.Actor.{Actor}
 use Rattle.look.specs.declared.Seen.the-variants as look
 

@@ -1,17 +1,17 @@
 -- A step by its action: what the action's range gives, and what the step leaves, put together from plain facts.
 -- Assumes nothing.
 use mathlib.Core.Path.{_≡_, refl, _∙_, ap, ap₂, sym, subst}
-use mathlib.Core.Bool.{Bool, true, false}
+use mathlib.Core.Bool.{Bool}
 use mathlib.Core.List.{List}
 use Prim.Native.Nat.{ℕ, _+_, _*_, _<_, _≤_}
 use native.Mathlib.Omega.{arith}
-use lib.ListN.{length, set, length-set}
+use lib.ListN.{length, length-set}
 use Rattle.table.specs.declared.Action.{Action}
 use Rattle.table.specs.declared.Action.the-variants.{Set, Add, Lesser, Send, Receive, TestAny, WaitAny, Lock, Unlock, MutexTest, MutexWait}
 use Rattle.table.specs.declared.Numbers.{Numbers}
-use Rattle.table.specs.Format.{actorsOf, countOf}
+use Rattle.table.specs.Format.{countOf}
 use Rattle.table.specs.Decode.{actionOf}
-use Rattle.table.specs.Promise.{WellFormed, InRange, Listing, LowerPost, number}
+use Rattle.table.specs.Promise.{InRange, Listing, LowerPost, number}
 use Rattle.trace.specs.Machine.{Name}
 use Rattle.model.specs.Site.{Mail, Port, name}
 use Rattle.model.specs.Views.{Post, silent, mails, posts, looks, sent, listed, pickUp}
@@ -20,8 +20,8 @@ use Rattle.model.specs.Mutex.{queueing}
 use Rattle.model.specs.Local.{Seen, unseen, seen, first, see, pickUpSeen, cellsAfter}
 use Rattle.model.specs.Step.{passes}
 use Rattle.names.specs.InByte.{nameOf}
-use Rattle.state.specs.State.{recordOf, tailIn, mailOf, queuesOf, MailRoom, QueueRoom, nextOf, seenFrom}
-use Rattle.step.specs.Parts.{Steppable, Took, StepTaken, Picks, SmallPlace}
+use Rattle.state.specs.State.{tailIn, mailOf, queuesOf, MailRoom, QueueRoom, nextOf, seenFrom}
+use Rattle.step.specs.Parts.{Steppable, StepTaken, Picks, SmallPlace}
 use Rattle.state.specs.declared.Actor.{Actor}
 use Rattle.step.specs.declared.Stepped.{Stepped}
 use Rattle.names.proofs.InByte.{name-byte}

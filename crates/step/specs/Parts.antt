@@ -1,15 +1,15 @@
 -- What one step takes and leaves: its own record, the mail and the queues.
 -- Assumes nothing: these are definitions.
-use Prim.Native.Nat.{ℕ, _+_, _<_, _≤_, _^_}
+use Prim.Native.Nat.{ℕ, _+_, _<_, _≤_}
 use mathlib.Core.Path.{_≡_}
-use mathlib.Core.Bool.{Bool, true, false}
+use mathlib.Core.Bool.{false}
 use mathlib.Core.List.{List}
 use lib.ListN.{length}
 use Rattle.table.specs.declared.Action.{Action}
 use Rattle.table.specs.Format.{actorsOf, countOf}
 use Rattle.table.specs.Decode.{actionOf}
 use Rattle.table.specs.Promise.{WellFormed}
-use Rattle.model.specs.Site.{Site, Mail, name}
+use Rattle.model.specs.Site.{Mail, name}
 use Rattle.model.specs.Views.{looks, posts, sent, waits}
 use Rattle.model.specs.Mutex.{queueing, join}
 use Rattle.model.specs.Mail.{mailing}

@@ -1,6 +1,6 @@
 // Text at the front of a lent part: bytes, numbers in decimal, and both. Each writer answers with the length of what it wrote.
 ghost use mathlib.Core.Path.{_≡_};
-ghost use mathlib.Core.List.{[], _∷_, _++_};
+ghost use mathlib.Core.List.{_++_};
 ghost use Prim.Native.Nat.{_+_, _<_, _≤_};
 ghost use lib.ListN.{length};
 ghost use Rattle.model.specs.Listing.{decimal as decimalOf, digit as digitOf, line};

@@ -2,19 +2,16 @@
 -- Assumes nothing.
 use Prim.Native.Nat.{ℕ, _≤_, _<_}
 use native.Mathlib.Omega.{arith}
-use native.Mathlib.Nat.{le-refl, le-trans}
 use mathlib.Core.Path.{_≡_, _∙_, ap, sym}
 use mathlib.Core.Logic.{_⊎_, inl, inr}
 use mathlib.Core.Bool.{true, false, false≢true}
 use mathlib.Core.List.{List, [], _∷_}
-use borrow.Author.Tests.{eqb-true, eqb-false}
-use lib.Dec.{eqb}
 use Rattle.trace.specs.Machine.{Machine, Name, nameOf}
 use Rattle.trace.specs.Laws.{Laws}
 use Rattle.trace.specs.Schedule.{accepted, names}
 use Rattle.trace.specs.Order.{mem, before}
-use Rattle.trace.proofs.Bools.{which, is-false}
-use Rattle.trace.proofs.Names.{mem-cases, before-cases}
+use Rattle.trace.proofs.Bools.{is-false}
+use Rattle.trace.proofs.Names.{before-cases}
 use Rattle.trace.proofs.Run.{first-ready, rest-accepted, name-above}
 
 module _ {M : Machine} {Inv : M .State → Type 0} (L : Laws M Inv) where

@@ -5,7 +5,7 @@ use Prim.Native.Nat.{ℕ, _≤_, _*_, _-_, _/_}
 use mathlib.Core.Path.{_≡_}
 use mathlib.Core.Logic.{_↔_}
 use mathlib.Core.Bool.{true, false}
-use mathlib.Core.List.{List, [], _∷_, _++_}
+use mathlib.Core.List.{List, _++_}
 use lib.ListN.{length, take}
 use Rattle.trace.specs.Machine.{Machine}
 use Rattle.trace.specs.Schedule.{accepted, final, names}

@@ -1,7 +1,7 @@
 -- `comparison::compared` meets its contract: a table that is refused, or a first schedule that halts early, decides; after an accepted one the second
 -- follows.
 -- Assumes nothing.
-use mathlib.Core.Path.{_≡_, refl, _∙_, ap, sym}
+use mathlib.Core.Path.{refl, _∙_, ap, sym}
 use Rattle.table.specs.Read.{readOf}
 use Rattle.table.specs.Answer.{outcome}
 use Rattle.table.proofs.Readings.{refusing}

@@ -1,6 +1,6 @@
 -- `comparison::follow` meets its contract: a second schedule that halts early is refused 14 to 16, and one that is accepted is judged.
 -- Assumes nothing.
-use mathlib.Core.Path.{_≡_, refl, _∙_, ap, sym}
+use mathlib.Core.Path.{refl, _∙_, ap, sym}
 use Rattle.model.specs.Schedule.{secondNumbers}
 use Rattle.play.specs.Parts.{haltOf}
 use Rattle.answers.proofs.Stops.{stop-refused}

@@ -1,6 +1,5 @@
 -- `comparison::trace_of` meets its contract: it halts where `play` halts, with the names that `play` kept.
 -- Assumes nothing.
-use mathlib.Core.Path.{_≡_}
 use borrow.Author.Needs.{needs}
 use Rattle.comparison.proofs.trace_of.Statement.{statement}
 use Rattle.comparison.proofs.trace_of.Tie as tie

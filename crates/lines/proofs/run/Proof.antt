@@ -1,5 +1,4 @@
 -- `lines::run` meets its contract: the steps' lines, then the ending's. Assumes nothing.
-use mathlib.Core.List.{List}
 use native.Mathlib.Omega.{arith}
 use borrow.Author.Needs.{needs}
 use Rattle.model.specs.Listing.{line, endText}

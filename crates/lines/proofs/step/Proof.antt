@@ -1,5 +1,5 @@
 -- `lines::step` meets its contract: the actor, a space and the action. Assumes nothing.
-use Prim.Native.Nat.{ℕ, _/_, _%_, _≤_}
+use Prim.Native.Nat.{ℕ, _≤_}
 use Rattle.lines.proofs.Wordings.{actor-length, action-line, wrote-step}
 use Rattle.writing.proofs.Texts.{wrote-at, wrote-room}
 use Rattle.model.specs.Listing.{decimal, line, space}

@@ -1,6 +1,6 @@
 -- `order::pair` meets its contract: the reader's refusal, then a name that is not in the table, then the verdict.
 -- Assumes nothing.
-use mathlib.Core.Path.{_≡_, refl, _∙_, ap, sym}
+use mathlib.Core.Path.{_∙_, ap, sym}
 use mathlib.Core.Bool.{true, false}
 use borrow.Author.Tests.{not-true, not-false}
 use Rattle.table.specs.Answer.{outcome}

@@ -1,6 +1,6 @@
 -- `order::route` meets its contract: refused as comparing the schedules is, then 19, then 18, and otherwise the route is written.
 -- Assumes nothing.
-use mathlib.Core.Path.{_≡_, refl, _∙_, ap, sym, subst}
+use mathlib.Core.Path.{_∙_, ap, sym, subst}
 use mathlib.Core.List.{List, _++_}
 use Prim.Native.Nat.{ℕ, _<_, _≤_}
 use native.Mathlib.Omega.{arith}
@@ -8,7 +8,7 @@ use lib.ListN.{length, drop}
 use Rattle.model.specs.Calls.{same as alike}
 use Rattle.answers.specs.Answers.{sameResult}
 use Rattle.comparison.proofs.TraceNames.{routable, route-names}
-use Rattle.order.proofs.RouteOutcomes.{products-few, are-same, one-length, first-taken, second-taken, route-refused, route-different, route-small, route-short, route-given}
+use Rattle.order.proofs.RouteOutcomes.{are-same, one-length, first-taken, second-taken, route-refused, route-different, route-small, route-short, route-given}
 use borrow.Author.Needs.{needs}
 use Rattle.order.proofs.route.Statement.{statement}
 use Rattle.order.proofs.route.Tie as tie

@@ -1,6 +1,6 @@
 -- `order::stands` meets its contract: the two tests are those of `inTable`.
 -- Assumes nothing.
-use mathlib.Core.Path.{_≡_, refl, sym}
+use mathlib.Core.Path.{sym}
 use borrow.Author.Tests.{lt-ltb, le-ltb}
 use borrow.Author.Needs.{needs}
 use Rattle.order.proofs.stands.Statement.{statement}

@@ -4,7 +4,6 @@ use Rattle.writing.proofs.Texts.{wrote-at, wrote-room}
 use Rattle.model.specs.Listing.{decimal}
 use borrow.Author.Needs.{needs}
 use lib.ListN.{length-append}
-use mathlib.Core.List.{_++_}
 use native.Mathlib.Omega.{arith}
 use Rattle.text.proofs.labelled.Statement.{statement}
 use Rattle.text.proofs.labelled.Tie as tie
