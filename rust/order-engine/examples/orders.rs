@@ -1,21 +1,20 @@
-//! Document 01's table A under two orders: what each leads to, and that they are one run.
+//! The specification's table A under two orders: what each leads to, and that they are one run.
 //!
 //! ```text
 //! cargo run --example orders
 //! ```
 
-use order_engine::{REPORT_ROOM, Refusal, SameVerdict, pair, ready, route, route_room, run, same};
-use reference::TABLE_A;
+use order_engine::{REPORT_ROOM, Refusal, StepName, pair, ready, route, route_room, run, same};
+use tables::TABLE_A;
 
 fn main() -> Result<(), Refusal> {
     let (one, other) = ([0, 0, 1, 1], [1, 0, 0, 1]);
     for schedule in [one, other] {
-        let mut report = [0; REPORT_ROOM];
-        let length = run(&TABLE_A, &schedule, &mut report)?;
+        let mut buffer = [0; REPORT_ROOM];
+        let report = run(&TABLE_A, &schedule, &mut buffer)?;
+        let received = report.actors().nth(1).map(|actor| actor.cells[2]);
         let ending = ready(&TABLE_A, &schedule)?.ending;
-        // Actor 1's record comes after actor 0's position and cells; cell 2 after its own position.
-        let value = u32::from_le_bytes([report[42], report[43], report[44], report[45]]);
-        println!("{schedule:?}: {ending:?}, {length} bytes of report, received {value}");
+        println!("{schedule:?}: {ending:?}, actor 1 received {received:?}");
     }
 
     // Who may go on after actor 1's first step.
@@ -23,13 +22,14 @@ fn main() -> Result<(), Refusal> {
     println!("after [1] ready: {open:?}");
 
     // The Send against the Receive, and against the Wait for it.
-    println!("0.1 and 1.0: {:?}", pair(&TABLE_A, (0, 1), (1, 0))?);
-    println!("0.1 and 1.1: {:?}", pair(&TABLE_A, (0, 1), (1, 1))?);
+    let [send, receive, wait] = [(0, 1), (1, 0), (1, 1)].map(|(a, k)| StepName::new(a, k));
+    println!("{send} and {receive}: {:?}", pair(&TABLE_A, send, receive)?);
+    println!("{send} and {wait}: {:?}", pair(&TABLE_A, send, wait)?);
 
-    if same(&TABLE_A, &one, &other)? == SameVerdict::Same {
-        let mut positions = [0; route_room(4)];
-        let length = route(&TABLE_A, &one, &other, &mut positions)?;
-        println!("one run: exchanges at {:?}", &positions[..length]);
+    if same(&TABLE_A, &one, &other)?.is_same() {
+        let mut buffer = [0; route_room(4)];
+        let route = route(&TABLE_A, &one, &other, &mut buffer)?;
+        println!("one run: exchanges at {route:?}");
     }
 
     // An order that cannot happen.

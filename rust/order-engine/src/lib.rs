@@ -4,11 +4,12 @@
 //! library's boundary: this crate passes each slice as a pointer and a length, and turns each answer
 //! into a [`Result`]. A refusal tells its number, its position and a sentence.
 //!
-//! - [`check`]: whether a file is a task table;
-//! - [`run`] and [`ready`]: what a schedule leads to, and who is ready then;
-//! - [`pair`], [`same`] and [`route`]: whether two steps are dependent, whether two schedules are one and
-//!   the same run, and the exchanges that lead from the one to the other;
-//! - [`fields`]: the same calls with their answers as C has them.
+//! - [`check()`]: whether a file is a task table;
+//! - [`run()`] and [`ready()`]: what a schedule leads to, as a [`Report`], and who is ready then;
+//! - [`pair()`], [`same()`] and [`route()`]: whether two steps are dependent, whether two schedules are
+//!   one and the same run, and the exchanges that lead from the one to the other.
+//!
+//! Each call has a module of its name, whose `fields` gives the answer as C has it.
 //!
 //! ```
 //! // One actor without actions.
@@ -21,20 +22,24 @@
 //! assert_eq!((refusal.number(), refusal.position()), (12, 0));
 //! ```
 
-#![deny(missing_docs)]
-
-mod ffi;
-pub mod fields;
+pub mod check;
+mod fields;
+pub mod pair;
+pub mod ready;
 mod refusal;
-mod stepping;
-mod verdicts;
+pub mod report;
+pub mod route;
+pub mod run;
+pub mod same;
+mod step;
 
-pub use refusal::Refusal;
-pub use stepping::{Ending, REPORT_ROOM, Ready, ready, run};
-pub use verdicts::{PairVerdict, SameVerdict, StepName, pair, route, route_room, same};
-
-/// Reads a table: accepted, or the first of refusals 1 to 9.
-pub fn check(table: &[u8]) -> Result<(), Refusal> {
-    let [] = fields::check(table).accepted()?;
-    Ok(())
-}
+pub use check::check;
+pub use fields::Fields;
+pub use pair::{PairVerdict, pair};
+pub use ready::{Ending, Ready, ready};
+pub use refusal::{Reason, Refusal};
+pub use report::Report;
+pub use route::{route, route_room};
+pub use run::{REPORT_ROOM, run};
+pub use same::{Same, SameVerdict, same};
+pub use step::StepName;

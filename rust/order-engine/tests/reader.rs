@@ -2,7 +2,7 @@
 //! a refusal.
 
 use order_engine::{Refusal, check};
-use reference::TABLE_A as A;
+use tables::TABLE_A as A;
 
 /// The refusal of A with one byte replaced.
 fn refusal(at: usize, byte: u8) -> Refusal {

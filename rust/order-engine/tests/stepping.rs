@@ -1,7 +1,7 @@
 //! The proved run and ready answer, called from Rust: document 01's cases (a) to (f).
 
 use order_engine::{Ending, REPORT_ROOM, Ready, Refusal, ready, run};
-use reference::TABLE_A as A;
+use tables::TABLE_A as A;
 
 fn numbers<T: std::fmt::Debug>(answer: Result<T, Refusal>) -> (u32, u32) {
     let refusal = answer.unwrap_err();
@@ -20,10 +20,11 @@ fn refused(schedule: &[u8]) -> (u32, u32) {
 #[test]
 fn case_a() {
     let mut report = [7; REPORT_ROOM + 1];
-    assert_eq!(run(&A, &[0, 1, 0, 1], &mut report), Ok(100));
-    assert_eq!(report[33], 2);
-    // Actor 1's cells 2 and 3.
-    assert_eq!(report[42..50], [149, 0, 0, 0, 1, 0, 0, 0]);
+    let view = run(&A, &[0, 1, 0, 1], &mut report).unwrap();
+    assert_eq!(view.bytes().len(), 100);
+    let actor = view.actors().nth(1).unwrap();
+    assert_eq!(actor.position, 2);
+    assert_eq!(actor.cells, [0, 0, 149, 1, 0, 0, 0, 0]);
     assert!(report[100..].iter().all(|&byte| byte == 7));
 }
 

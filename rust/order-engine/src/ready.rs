@@ -1,10 +1,16 @@
-//! Stepping a schedule: the run and the ready answer.
+//! Who is ready where a schedule leads.
 
-use crate::fields;
+use crate::fields::Fields;
 use crate::refusal::Refusal;
 
-/// The bytes that [`run`] wants lent. No report is longer.
-pub const REPORT_ROOM: usize = 2_912;
+unsafe extern "C" {
+    fn order_ready(
+        table: *const u8,
+        table_length: usize,
+        schedule: *const u8,
+        schedule_length: usize,
+    ) -> Fields<3>;
+}
 
 /// How a state stands.
 #[derive(Clone, Copy, PartialEq, Eq, Hash, Debug)]
@@ -36,21 +42,11 @@ impl Ready {
     }
 }
 
-/// Steps `schedule` from a fresh site and writes the report of the state it leads to into `report`,
-/// which must have at least [`REPORT_ROOM`] bytes. Answers with the report's length; bytes after it
-/// keep what they held.
-///
-/// Refusals: 10, then 1 to 9, then 11 to 13. A refused run writes nothing.
-pub fn run(table: &[u8], schedule: &[u8], report: &mut [u8]) -> Result<usize, Refusal> {
-    let [length] = fields::run(table, schedule, report).accepted()?;
-    Ok(length as usize)
-}
-
 /// Steps `schedule` from a fresh site and tells who is ready in the state it leads to.
 ///
 /// Refusals: 1 to 9, then 11 to 13.
 pub fn ready(table: &[u8], schedule: &[u8]) -> Result<Ready, Refusal> {
-    let [mask, count, ending] = fields::ready(table, schedule).accepted()?;
+    let [mask, count, ending] = fields(table, schedule).accepted()?;
     let ending = match ending {
         0 => Ending::Finished,
         1 => Ending::Stuck,
@@ -62,4 +58,19 @@ pub fn ready(table: &[u8], schedule: &[u8]) -> Result<Ready, Refusal> {
         count,
         ending,
     })
+}
+
+/// The answer as C has it: the mask, how many are ready, and the ending (0 finished, 1 stuck, 2
+/// going).
+pub fn fields(table: &[u8], schedule: &[u8]) -> Fields<3> {
+    // SAFETY: pointers and lengths are those of slices that are borrowed throughout the call, which
+    // only reads them.
+    unsafe {
+        order_ready(
+            table.as_ptr(),
+            table.len(),
+            schedule.as_ptr(),
+            schedule.len(),
+        )
+    }
 }
