@@ -1,6 +1,6 @@
 //! An action taken apart.
 
-use crate::kind;
+use tables::Kind;
 
 /// One to four numbers, of actions or of mutexes.
 #[derive(Clone, Copy, PartialEq, Eq, Debug)]
@@ -55,45 +55,47 @@ pub enum Action {
 }
 
 impl Action {
-    /// The action that eight bytes of an accepted table give. Panics where the kind is over 10.
+    /// The action that eight bytes of an accepted table give. Panics where the kind is unknown.
     #[inline(always)]
     pub fn decode(bytes: [u8; 8]) -> Self {
         let [code, p, q, z, numbers @ ..] = bytes;
         let list = List { length: z, numbers };
-        match code {
-            kind::SET => Self::Set {
+        let Some(kind) = Kind::of(code) else {
+            unreachable!("an accepted table has no kind {code}");
+        };
+        match kind {
+            Kind::Set => Self::Set {
                 cell: p,
                 value: u32::from_le_bytes(numbers),
             },
-            kind::ADD => Self::Add { cell: p, other: q },
-            kind::LESSER => Self::Lesser { cell: p, other: q },
-            kind::SEND => Self::Send {
+            Kind::Add => Self::Add { cell: p, other: q },
+            Kind::Lesser => Self::Lesser { cell: p, other: q },
+            Kind::Send => Self::Send {
                 mailbox: p,
                 cell: q,
             },
-            kind::RECEIVE => Self::Receive {
+            Kind::Receive => Self::Receive {
                 mailbox: p,
                 cell: q,
             },
-            kind::TEST_ANY => Self::TestAny {
+            Kind::TestAny => Self::TestAny {
                 result: p,
                 actions: list,
             },
-            kind::WAIT_ANY => Self::WaitAny {
+            Kind::WaitAny => Self::WaitAny {
                 result: p,
                 actions: list,
             },
-            kind::LOCK => Self::Lock { mutex: p },
-            kind::UNLOCK => Self::Unlock { mutex: p },
-            kind::MUTEX_TEST => Self::MutexTest {
+            Kind::Lock => Self::Lock { mutex: p },
+            Kind::Unlock => Self::Unlock { mutex: p },
+            Kind::MutexTest => Self::MutexTest {
                 result: p,
                 mutexes: list,
             },
-            kind::MUTEX_WAIT => Self::MutexWait {
+            Kind::MutexWait => Self::MutexWait {
                 result: p,
                 mutexes: list,
             },
-            _ => unreachable!("an accepted table has kinds 0 to 10"),
         }
     }
 }

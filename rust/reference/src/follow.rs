@@ -19,12 +19,8 @@ impl Schedule {
     /// The refusals for no such actor, a finished one and one that is not ready.
     fn reasons(self) -> [Reason; 3] {
         match self {
-            Self::First => [Reason::NoActor, Reason::Finished, Reason::NotReady],
-            Self::Second => [
-                Reason::SecondNoActor,
-                Reason::SecondFinished,
-                Reason::SecondNotReady,
-            ],
+            Self::First => Reason::OF_FIRST,
+            Self::Second => Reason::OF_SECOND,
         }
     }
 }

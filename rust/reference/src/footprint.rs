@@ -2,9 +2,9 @@
 //! other's. The same relation as [`crate::pair::dependent`], made for asking it often.
 
 use crate::action::{Action, List};
-use crate::kind;
 use crate::name::Name;
 use crate::table::Table;
+use tables::Kind;
 
 /// The marks of a step, and the marks that it is dependent on.
 #[derive(Clone, Copy, PartialEq, Eq, Debug, Default)]
@@ -76,7 +76,7 @@ fn awaits(table: &Table, actor: usize, actions: &List) -> (u64, u64) {
     let (mut marks, mut meets) = (0, 0);
     for &number in actions.numbers() {
         let [code, mailbox, ..] = script[usize::from(number)];
-        if code == kind::RECEIVE {
+        if code == Kind::Receive.code() {
             marks |= mark(AWAITS_SEND, mailbox);
             meets |= mark(SENDS, mailbox);
         } else {

@@ -4,7 +4,7 @@
 //! part of the document:
 //!
 //! - [`refusal`]: what a refusal says;
-//! - [`kind`] and [`action`]: the kinds of action and an action taken apart;
+//! - [`action`]: an action taken apart;
 //! - [`reader`]: the table reader, refusals 1 to 9;
 //! - [`table`]: a table that the reader accepted;
 //! - [`name`]: a step's name;
@@ -12,13 +12,24 @@
 //! - [`site`]: the state and its steps;
 //! - [`mod@follow`]: stepping along a schedule, refusals 11 to 16;
 //! - [`mod@ready`], [`report`], [`mod@run`]: the ready answer, the state report and the run;
-//! - [`mod@pair`] and [`footprint`]: the pair verdict, by its four cases and made for speed;
-//! - [`trace`], [`mod@same`], [`mod@route`]: an accepted schedule's steps, the same verdict and
-//!   the exchange route;
-//! - [`search`] and [`mod@replay`]: the same verdict by searching all chains, and a route replayed.
+//! - [`mod@pair`]: the pair verdict, by its four cases;
+//! - [`trace`], [`mod@same`], [`mod@route`]: an accepted schedule's steps, the same verdict by normal
+//!   forms, and the exchange route;
+//! - [`search`] and [`mod@replay`]: the same verdict by searching all chains, and a route replayed;
+//! - [`quick`] and [`footprint`]: the same verdict and the route made for speed, to be measured.
 //!
-//! The stepping engine knows a table by [`Table`] alone, which only [`check`] makes. Nothing in the
-//! calls' way is on the heap; a step costs the same however long the schedule and the queues are.
+//! The stepping engine knows a table by [`Table`] alone, which only [`check`] makes. Stepping needs no
+//! heap; a step costs the same however long the schedule and the queues are.
+//!
+//! # What it shares with the proved engine
+//!
+//! No code and no table of numbers. The numbers of the kinds are those of the crate `tables`, which
+//! also writes the tables that both are given. Some ideas are the same: a mailbox is one queue whose
+//! names are never moved, a mutex's queue is an array and a length, and the route pulls each entry to
+//! its place in turn. What is decided by another way: the reader's forms (masks over an action's
+//! bytes), dependence (the four cases as the document has them, without a table of codes), and the
+//! same verdict (normal forms; on short schedules also a search through all chains). [`quick`], which
+//! is measured and not compared, works as the proved engine does.
 
 #![forbid(unsafe_code)]
 
@@ -27,11 +38,11 @@ pub mod actor;
 pub mod communication;
 pub mod follow;
 pub mod footprint;
-pub mod kind;
 pub mod mailbox;
 pub mod mutex;
 pub mod name;
 pub mod pair;
+pub mod quick;
 pub mod reader;
 pub mod ready;
 pub mod refusal;
@@ -59,4 +70,4 @@ pub use run::run;
 pub use same::same;
 pub use search::chain_exists;
 pub use site::Site;
-pub use table::{TABLE_A, Table};
+pub use table::Table;

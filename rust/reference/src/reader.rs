@@ -1,8 +1,8 @@
 //! The table reader: refusals 1 to 9 in document 01's order.
 
-use crate::kind;
 use crate::refusal::{Reason, Refusal};
 use crate::table::Table;
+use tables::Kind;
 
 /// The most actors, mailboxes or mutexes, and the number of an actor's cells.
 const MOST: u8 = 8;
@@ -88,7 +88,7 @@ fn actions(table: &[u8], directory: &[[u8; ENTRY]], limits: &Limits) -> Result<(
                 let at = offset + ACTION * bit.trailing_zeros() as usize;
                 return Err(Refusal::new(reason, at as u32));
             }
-            if action[0] == kind::SEND || action[0] == kind::RECEIVE {
+            if action[0] == Kind::Send.code() || action[0] == Kind::Receive.code() {
                 posts |= bit;
             }
             bit <<= 1;
@@ -101,18 +101,20 @@ fn actions(table: &[u8], directory: &[[u8; ENTRY]], limits: &Limits) -> Result<(
 /// What the header leaves to an action.
 struct Limits {
     /// By kind: what p lies under.
-    p: [u8; 16],
+    p: [u8; ROWS],
     /// Bit i: mutex i exists.
     mutexes: u32,
 }
 
 impl Limits {
     fn of(header: &Header) -> Self {
-        let mut p = [MOST; 16];
-        p[usize::from(kind::SEND)] = header.mailboxes;
-        p[usize::from(kind::RECEIVE)] = header.mailboxes;
-        p[usize::from(kind::LOCK)] = header.mutexes;
-        p[usize::from(kind::UNLOCK)] = header.mutexes;
+        let mut p = [MOST; ROWS];
+        for kind in [Kind::Send, Kind::Receive] {
+            p[kind as usize] = header.mailboxes;
+        }
+        for kind in [Kind::Lock, Kind::Unlock] {
+            p[kind as usize] = header.mutexes;
+        }
         Self {
             p,
             mutexes: (1 << header.mutexes) - 1,
@@ -123,7 +125,7 @@ impl Limits {
     #[inline(always)]
     fn broken_by(&self, action: [u8; ACTION], posts: u32) -> Option<Reason> {
         let [code, p, _, z, ..] = action;
-        if code >= kind::COUNT {
+        if usize::from(code) >= Kind::COUNT {
             return Some(Reason::Kind);
         }
         let row = usize::from(code);
@@ -136,7 +138,7 @@ impl Limits {
             if z == 0 || z > LONGEST_LIST {
                 return Some(Reason::Range);
             }
-            let (allowed, otherwise) = if code <= kind::WAIT_ANY {
+            let (allowed, otherwise) = if code <= Kind::WaitAny.code() {
                 (posts, Reason::Listed)
             } else {
                 (self.mutexes, Reason::Range)
@@ -172,37 +174,30 @@ const Z: u64 = 0x0000_0000_ff00_0000;
 const B4_TO_B7: u64 = 0xffff_ffff_0000_0000;
 const Q_OVER_7: u64 = 0x0000_0000_00f8_0000;
 
+/// A power of two that no kind passes: a row's index needs no test.
+const ROWS: usize = Kind::COUNT.next_power_of_two();
+
 /// By kind: its form.
-static FORMS: [Form; 16] = {
-    let value = Form {
-        no_cell: 0,
-        unused: Q | Z,
-        list: false,
-    };
-    let two_fields = Form {
-        no_cell: Q_OVER_7,
-        unused: Z | B4_TO_B7,
-        list: false,
-    };
-    let list = Form {
-        no_cell: 0,
-        unused: Q,
-        list: true,
-    };
-    let one_field = Form {
-        no_cell: 0,
-        unused: Q | Z | B4_TO_B7,
-        list: false,
-    };
-    let mut forms = [one_field; 16];
-    forms[kind::SET as usize] = value;
-    forms[kind::ADD as usize] = two_fields;
-    forms[kind::LESSER as usize] = two_fields;
-    forms[kind::SEND as usize] = two_fields;
-    forms[kind::RECEIVE as usize] = two_fields;
-    forms[kind::TEST_ANY as usize] = list;
-    forms[kind::WAIT_ANY as usize] = list;
-    forms[kind::MUTEX_TEST as usize] = list;
-    forms[kind::MUTEX_WAIT as usize] = list;
+static FORMS: [Form; ROWS] = {
+    let mut forms = [form(Kind::Set); ROWS];
+    let mut row = 0;
+    while row < Kind::COUNT {
+        forms[row] = form(Kind::ALL[row]);
+        row += 1;
+    }
     forms
 };
+
+const fn form(kind: Kind) -> Form {
+    let (no_cell, unused, list) = match kind {
+        Kind::Set => (0, Q | Z, false),
+        Kind::Add | Kind::Lesser | Kind::Send | Kind::Receive => (Q_OVER_7, Z | B4_TO_B7, false),
+        Kind::TestAny | Kind::WaitAny | Kind::MutexTest | Kind::MutexWait => (0, Q, true),
+        Kind::Lock | Kind::Unlock => (0, Q | Z | B4_TO_B7, false),
+    };
+    Form {
+        no_cell,
+        unused,
+        list,
+    }
+}

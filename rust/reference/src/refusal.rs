@@ -1,47 +1,99 @@
 //! Refusals: document 01's number and a position.
 
-/// Why a call refuses; the discriminant is document 01's number.
-#[derive(Clone, Copy, PartialEq, Eq, Debug)]
-#[repr(u32)]
-pub enum Reason {
+macro_rules! reasons {
+    ($($(#[$doc:meta])* $number:literal $reason:ident;)*) => {
+        /// Why a call refuses; the discriminant is document 01's number.
+        #[derive(Clone, Copy, PartialEq, Eq, PartialOrd, Ord, Hash, Debug)]
+        #[repr(u32)]
+        pub enum Reason {
+            $($(#[$doc])* $reason = $number,)*
+        }
+
+        impl Reason {
+            /// How many there are.
+            pub const COUNT: usize = [$($number),*].len();
+
+            /// All of them, by number.
+            pub const ALL: [Self; Self::COUNT] = [$(Self::$reason),*];
+        }
+    };
+}
+
+reasons! {
     /// The file has under 4 bytes.
-    ShortFile = 1,
+    1 ShortFile;
     /// The edition is not 1.
-    Edition = 2,
+    2 Edition;
     /// The number of actors, mailboxes or mutexes is out of its range.
-    Count = 3,
+    3 Count;
     /// The directory is cut short, or an entry has a wrong offset or more than 32 actions.
-    Directory = 4,
+    4 Directory;
     /// The file does not end with the last actor's last action.
-    FileEnd = 5,
-    /// An action's kind is over 10.
-    Kind = 6,
+    5 FileEnd;
+    /// An action's kind is unknown.
+    6 Kind;
     /// A cell, mailbox, mutex, list length or listed mutex is out of range.
-    Range = 7,
+    7 Range;
     /// A listed action is not a lower Send or Receive of the same actor.
-    Listed = 8,
+    8 Listed;
     /// A byte without a use is not 0.
-    Unused = 9,
+    9 Unused;
     /// The report buffer has under 2,912 bytes.
-    ReportRoom = 10,
+    10 ReportRoom;
     /// An entry of the (first) schedule names no actor.
-    NoActor = 11,
+    11 NoActor;
     /// An entry of the (first) schedule names a finished actor.
-    Finished = 12,
+    12 Finished;
     /// An entry of the (first) schedule names an actor that is not ready.
-    NotReady = 13,
+    13 NotReady;
     /// An entry of the second schedule names no actor.
-    SecondNoActor = 14,
+    14 SecondNoActor;
     /// An entry of the second schedule names a finished actor.
-    SecondFinished = 15,
+    15 SecondFinished;
     /// An entry of the second schedule names an actor that is not ready.
-    SecondNotReady = 16,
+    16 SecondNotReady;
     /// A step's name is not in the table.
-    NoStep = 17,
+    17 NoStep;
     /// The route buffer has under m·(m − 1)/2 entries, m being the schedules' length.
-    RouteRoom = 18,
+    18 RouteRoom;
     /// The schedules are different, so that there is no route.
-    Different = 19,
+    19 Different;
+}
+
+impl Reason {
+    /// The reasons to refuse a table, in the order in which they are looked for.
+    pub const OF_TABLE: [Self; 9] = [
+        Self::ShortFile,
+        Self::Edition,
+        Self::Count,
+        Self::Directory,
+        Self::FileEnd,
+        Self::Kind,
+        Self::Range,
+        Self::Listed,
+        Self::Unused,
+    ];
+
+    /// The reasons to refuse an entry of the only schedule, or of the first of two.
+    pub const OF_FIRST: [Self; 3] = [Self::NoActor, Self::Finished, Self::NotReady];
+
+    /// The reasons to refuse an entry of the second schedule.
+    pub const OF_SECOND: [Self; 3] = [
+        Self::SecondNoActor,
+        Self::SecondFinished,
+        Self::SecondNotReady,
+    ];
+
+    /// Document 01's number.
+    pub const fn number(self) -> u32 {
+        self as u32
+    }
+
+    /// The reason with this number, if there is one.
+    pub fn of(number: u32) -> Option<Self> {
+        let mut all = Self::ALL.into_iter();
+        all.find(|reason| reason.number() == number)
+    }
 }
 
 /// A refusal: its reason and the position it arose at.
@@ -50,7 +102,7 @@ pub struct Refusal {
     /// Why.
     pub reason: Reason,
     /// Where: the action's offset for [`Reason::Kind`] to [`Reason::Unused`], the entry's index for
-    /// [`Reason::NoActor`] to [`Reason::SecondNotReady`], otherwise 0.
+    /// [`Reason::OF_FIRST`] and [`Reason::OF_SECOND`], otherwise 0.
     pub position: u32,
 }
 
@@ -62,6 +114,6 @@ impl Refusal {
 
     /// Document 01's number.
     pub const fn number(self) -> u32 {
-        self.reason as u32
+        self.reason.number()
     }
 }

@@ -19,7 +19,7 @@ pub fn route(
 ) -> Result<usize, Refusal> {
     let table = check(table)?;
     let (first, second) = traces(&table, first, second)?;
-    if !same_traces(&first, &second) {
+    if !same_traces(&table, &first, &second) {
         return Err(Refusal::new(Reason::Different, 0));
     }
     if route.len() < room(first.names().len()) {
@@ -34,7 +34,7 @@ pub const fn room(m: usize) -> usize {
 }
 
 /// Pulls each name of `second` to its place in `first`.
-fn pull(first: &[Name], second: &[Name], route: &mut [u16]) -> usize {
+pub(crate) fn pull(first: &[Name], second: &[Name], route: &mut [u16]) -> usize {
     let mut names = [Name::default(); Name::COUNT];
     let names = &mut names[..first.len()];
     names.copy_from_slice(first);

@@ -1,7 +1,9 @@
-//! The same verdict: whether a chain of exchanges turns one schedule into another.
+//! The same verdict: whether a chain of exchanges turns one schedule into another. Decided by normal
+//! forms, not by looking for pairs in opposite orders.
 
 use crate::follow::Schedule;
 use crate::name::Name;
+use crate::pair::dependent;
 use crate::reader::check;
 use crate::refusal::Refusal;
 use crate::table::Table;
@@ -12,57 +14,35 @@ use crate::trace::Trace;
 pub fn same(table: &[u8], first: &[u8], second: &[u8]) -> Result<bool, Refusal> {
     let table = check(table)?;
     let (first, second) = traces(&table, first, second)?;
-    Ok(same_traces(&first, &second))
+    Ok(same_traces(&table, &first, &second))
 }
 
 /// Steps the first schedule whole, then the second.
-pub(crate) fn traces(
-    table: &Table,
+pub(crate) fn traces<'a>(
+    table: &'a Table,
     first: &[u8],
     second: &[u8],
-) -> Result<(Trace, Trace), Refusal> {
+) -> Result<(Trace<'a>, Trace<'a>), Refusal> {
     let first = Trace::of(table, Schedule::First, first)?;
     let second = Trace::of(table, Schedule::Second, second)?;
     Ok((first, second))
 }
 
-/// The rule: equal lengths, the same step names, and no dependent pair that the second runs in the
-/// opposite order. Pairs are compared by rising later step, then rising earlier one, up to the first
-/// such pair.
-pub fn same_traces(first: &Trace, second: &Trace) -> bool {
-    let length = first.names().len();
-    let Some(places) = places(first, second) else {
-        return false;
-    };
-    let places = &places[..length];
-    let footprints = &first.footprints()[..length];
-    for later in 0..length {
-        let (place, meets) = (places[later], footprints[later].meets);
-        for earlier in 0..later {
-            if places[earlier] > place && footprints[earlier].marks & meets != 0 {
-                return false;
-            }
-        }
-    }
-    true
+/// Whether two traces have one normal form.
+pub fn same_traces(table: &Table, first: &Trace, second: &Trace) -> bool {
+    levels(table, first.names()) == levels(table, second.names())
 }
 
-/// For each step of the first trace its place in the second; none where the names differ.
-fn places(first: &Trace, second: &Trace) -> Option<[u16; Name::COUNT]> {
-    const ABSENT: u16 = u16::MAX;
-    if first.names().len() != second.names().len() {
-        return None;
+/// The normal form of a trace (Foata's): by name the level of its step, 0 for one that is not run. A
+/// step's level is one above the highest of the earlier steps that it depends on. Steps of one level
+/// are independent of one another and may come in any order; an exchange changes no level.
+fn levels(table: &Table, names: &[Name]) -> [u16; Name::COUNT] {
+    let mut levels = [0; Name::COUNT];
+    for (place, &name) in names.iter().enumerate() {
+        let earlier = names[..place].iter();
+        let below = earlier.filter(|&&other| dependent(table, other, name));
+        let highest = below.map(|other| levels[other.index()]).max();
+        levels[name.index()] = highest.unwrap_or(0) + 1;
     }
-    let mut by_name = [ABSENT; Name::COUNT];
-    for (place, name) in second.names().iter().enumerate() {
-        by_name[name.index()] = place as u16;
-    }
-    let mut places = [ABSENT; Name::COUNT];
-    for (place, name) in places.iter_mut().zip(first.names()) {
-        *place = by_name[name.index()];
-        if *place == ABSENT {
-            return None;
-        }
-    }
-    Some(places)
+    levels
 }

@@ -1,17 +1,6 @@
-//! A table that the reader accepted; document 01's example of one.
+//! A table that the reader accepted.
 
 use crate::action::Action;
-
-/// Document 01's table A: actor 0 sets 149 and sends it; actor 1 receives into cell 2 and waits,
-/// with the result in cell 3.
-pub const TABLE_A: [u8; 44] = [
-    1, 2, 1, 0, //
-    12, 0, 2, 0, 28, 0, 2, 0, //
-    0, 0, 0, 0, 0x95, 0, 0, 0, //
-    3, 0, 0, 0, 0, 0, 0, 0, //
-    4, 0, 2, 0, 0, 0, 0, 0, //
-    6, 3, 0, 1, 0, 0, 0, 0,
-];
 
 /// An accepted table, seen in its bytes. Only [`crate::check`] makes one.
 #[derive(Clone, Copy, Debug)]

@@ -1,55 +1,49 @@
 //! An accepted schedule as the list of its steps.
 
 use crate::follow::{Schedule, follow};
-use crate::footprint::Footprint;
 use crate::name::Name;
+use crate::pair::dependent;
 use crate::refusal::Refusal;
 use crate::site::Site;
 use crate::table::Table;
 
 /// The steps of an accepted schedule. There are at most 256, for no name comes twice.
 #[derive(Clone, Debug)]
-pub struct Trace {
-    length: usize,
-    names: [Name; Name::COUNT],
-    footprints: [Footprint; Name::COUNT],
+pub struct Trace<'a> {
+    table: &'a Table<'a>,
+    names: Vec<Name>,
 }
 
-impl Trace {
+impl<'a> Trace<'a> {
     /// Steps `entries` from a fresh site: its trace, or the refusal.
-    pub fn of(table: &Table, which: Schedule, entries: &[u8]) -> Result<Self, Refusal> {
-        let mut trace = Self {
-            length: 0,
-            names: [Name::default(); Name::COUNT],
-            footprints: [Footprint::default(); Name::COUNT],
-        };
+    pub fn of(table: &'a Table, which: Schedule, entries: &[u8]) -> Result<Self, Refusal> {
+        let mut names = Vec::new();
         let mut site = Site::fresh();
-        follow(table, which, entries, &mut site, |name, action| {
-            trace.names[trace.length] = name;
-            trace.footprints[trace.length] = Footprint::of(table, name, action);
-            trace.length += 1;
-        })?;
-        Ok(trace)
+        let visit = |name, _: &_| names.push(name);
+        follow(table, which, entries, &mut site, visit)?;
+        Ok(Self { table, names })
     }
 
     /// The steps' names, in the schedule's order.
     pub fn names(&self) -> &[Name] {
-        &self.names[..self.length]
+        &self.names
     }
 
-    /// The steps' footprints, in the schedule's order.
-    pub fn footprints(&self) -> &[Footprint] {
-        &self.footprints[..self.length]
+    /// Whether steps `k` and `k + 1` both exist and are independent.
+    pub fn independent(&self, k: usize) -> bool {
+        match self.names.get(k..k + 2) {
+            Some(&[one, other]) => !dependent(self.table, one, other),
+            _ => false,
+        }
     }
 
     /// Exchanges steps `k` and `k + 1` if both exist and are independent; whether it did.
     pub fn exchange(&mut self, k: usize) -> bool {
-        if k + 1 >= self.length || self.footprints[k].dependent(&self.footprints[k + 1]) {
-            return false;
+        let may = self.independent(k);
+        if may {
+            self.names.swap(k, k + 1);
         }
-        self.names.swap(k, k + 1);
-        self.footprints.swap(k, k + 1);
-        true
+        may
     }
 
     /// The schedule: each step's actor.

@@ -1,6 +1,7 @@
 //! The reader against document 01: table A, cases (i) and (j), and a case for each condition.
 
-use reference::{Action, Refusal, TABLE_A as A, check, validate};
+use reference::{Action, Refusal, check, validate};
+use tables::TABLE_A as A;
 
 /// Number and position of the refusal, 0 and 0 where accepted.
 fn answer(table: &[u8]) -> (u32, u32) {

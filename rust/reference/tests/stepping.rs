@@ -4,6 +4,7 @@ mod common;
 
 use common::*;
 use reference::{Ending, Name, ready, run};
+use tables::action::*;
 
 /// The cells of an actor after a schedule.
 fn cells(table: &[u8], schedule: &[u8], actor: usize) -> [u32; 8] {

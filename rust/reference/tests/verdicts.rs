@@ -6,7 +6,8 @@ use common::*;
 use reference::footprint::Footprint;
 use reference::pair::dependent;
 use reference::route::room;
-use reference::{Name, chain_exists, check, pair, replay, replay_stepping, route, same};
+use reference::{Name, chain_exists, check, pair, quick, replay, replay_stepping, route, same};
+use tables::action::*;
 
 /// Whether the last actions of two actors are dependent. Each actor first receives from mailbox 0
 /// (action 0) and sends to mailbox 1 (action 1).
@@ -182,9 +183,13 @@ fn all_pairs(actors: &[&[[u8; 8]]], length: usize) {
         for second in &schedules {
             let verdict = same(&bytes, first, second).unwrap();
             assert_eq!(verdict, chain_exists(&table, first, second));
+            assert_eq!(quick::same(&bytes, first, second), Ok(verdict));
             let mut positions = vec![7; room(length) + 1];
+            let mut quickly = positions.clone();
             let answer = route(&bytes, first, second, &mut positions);
             assert_eq!(answer.is_ok(), verdict);
+            assert_eq!(quick::route(&bytes, first, second, &mut quickly), answer);
+            assert_eq!(quickly, positions);
             if let Ok(steps) = answer {
                 assert_eq!(report(&bytes, first), report(&bytes, second));
                 assert!(positions[steps..].iter().all(|&entry| entry == 7));
