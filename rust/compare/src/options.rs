@@ -1,12 +1,12 @@
 //! The programs' command lines.
 
-use crate::CALLS;
-use crate::call::Call;
+use crate::calls;
+use crate::harness::call::Call;
 use std::env;
 
 /// What a command line may have.
 fn usage() -> String {
-    let names: Vec<&str> = CALLS.iter().map(|call| call.name).collect();
+    let names: Vec<&str> = calls::ALL.iter().map(|call| call.name).collect();
     let names = names.join(" | ");
     format!("usage: [{names}]... [--seed N] [--cases N] [--minutes N]")
 }
@@ -41,7 +41,7 @@ impl Options {
                 "--seed" => options.seed = Some(number()?),
                 "--cases" => options.cases = Some(number()? as usize),
                 "--minutes" => options.minutes = Some(number()?),
-                name if CALLS.iter().any(|call| call.name == name) => options.names.push(word),
+                name if calls::ALL.iter().any(|call| call.name == name) => options.names.push(word),
                 _ => return Err(format!("there is no call or option {word}\n{}", usage())),
             }
         }
@@ -52,6 +52,6 @@ impl Options {
     pub fn calls(&self) -> impl Iterator<Item = &'static Call> {
         let named =
             |call: &&Call| self.names.is_empty() || self.names.iter().any(|name| name == call.name);
-        CALLS.iter().filter(named)
+        calls::ALL.iter().filter(named)
     }
 }

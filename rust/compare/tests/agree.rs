@@ -1,11 +1,12 @@
 //! Short comparisons, for `cargo test`.
 
-use compare::CALLS;
+use compare::calls;
+use compare::harness::sides::compare;
 
 #[test]
 fn the_engines_agree() {
-    for call in CALLS {
-        if let Err(difference) = call.compare(1, call.cases / 12) {
+    for call in calls::ALL {
+        if let Err(difference) = compare(call, 1, call.cases / 12) {
             panic!("{difference}");
         }
     }

@@ -25,10 +25,15 @@ pub fn listing(kind: Kind, p: u8, list: &[u8]) -> Action {
     action
 }
 
+/// An action of `kind` with a value of 32 bits.
+pub const fn valued(kind: Kind, p: u8, value: u32) -> Action {
+    let [a, b, c, d] = value.to_le_bytes();
+    [kind.code(), p, 0, 0, a, b, c, d]
+}
+
 /// `cell` becomes `value`.
 pub const fn set(cell: u8, value: u32) -> Action {
-    let [a, b, c, d] = value.to_le_bytes();
-    [Kind::Set.code(), cell, 0, 0, a, b, c, d]
+    valued(Kind::Set, cell, value)
 }
 
 /// `cell` becomes its sum with `other`.

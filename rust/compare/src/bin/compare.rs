@@ -1,10 +1,12 @@
 //! Compares the proved engine with the reference on many inputs that a seed determines. Ends with
 //! status 1 at the first difference, or where too few inputs of some sort were met.
 
-use compare::call::Call;
+use compare::harness::call::Call;
+use compare::harness::shrink::shrunk;
+use compare::harness::sides::compare;
+use compare::harness::tally::Tally;
 use compare::options::Options;
-use compare::shrink::shrunk;
-use compare::tally::{Demands, Tally};
+use reference::Reason;
 use std::process::ExitCode;
 use std::time::Instant;
 
@@ -34,13 +36,10 @@ fn main() -> ExitCode {
 fn held(call: &'static Call, options: &Options) -> Option<Tally> {
     let seed = options.seed.unwrap_or(SEED);
     let cases = options.cases.unwrap_or(call.cases);
-    println!(
-        "{}: {}, refusals {:?}",
-        call.name, call.about, call.refusals
-    );
+    println!("{}: {}", call.name, call.about);
     println!("seed {seed}, {cases} random inputs");
     let start = Instant::now();
-    let tally = match call.compare(seed, cases) {
+    let tally = match compare(call, seed, cases) {
         Ok(tally) => tally,
         Err(difference) => {
             println!(
@@ -51,8 +50,7 @@ fn held(call: &'static Call, options: &Options) -> Option<Tally> {
         }
     };
     println!("{tally}");
-    let mut shortfalls = Demands::of(&tally).only_those_of(call).short();
-    shortfalls.extend((call.shortfalls)(&tally));
+    let shortfalls = call.shortfalls(&tally);
     if shortfalls.is_empty() {
         println!("no difference, {:.1} s\n", start.elapsed().as_secs_f64());
         return Some(tally);
@@ -73,11 +71,11 @@ fn refusals(tallies: &[(&Call, Tally)]) {
         print!("{:>9}", call.name);
     }
     println!();
-    for number in 1..=19 {
-        print!("{number:<8}");
+    for reason in Reason::ALL {
+        print!("{:<8}", reason.number());
         for (call, tally) in tallies {
-            match call.refusals.contains(&number) {
-                true => print!("{:>9}", tally.hits(number)),
+            match call.refuses(reason) {
+                true => print!("{:>9}", tally.refused(reason)),
                 false => print!("{:>9}", "-"),
             }
         }

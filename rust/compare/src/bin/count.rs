@@ -2,7 +2,8 @@
 //! up after each function whose name begins with `measured_`: what lies between a `measured_begin`
 //! and the `measured_part` after it is counted, first for the proved engine, then for the reference.
 
-use compare::workload::{Load, Measure, Work, all};
+use compare::calls::measure_all;
+use compare::workload::{Load, Measure, Work, loads};
 use std::hint::black_box;
 
 struct Count;
@@ -37,5 +38,5 @@ fn measured_part(load: &Load, call: &mut dyn FnMut(&Work) -> usize) {
 }
 
 fn main() {
-    all(&mut Count);
+    measure_all(&mut Count, &loads());
 }

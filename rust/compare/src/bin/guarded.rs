@@ -2,11 +2,14 @@
 //! one beginning right after one: no byte outside what is lent is read or written, and what is lent
 //! to be read is not written. Ends with status 1 otherwise, or at a difference from the reference.
 
-use compare::call::{Call, Outcome, Sides};
-use compare::guarded::Guarded;
+use compare::harness::call::Call;
+use compare::harness::demands::Demands;
+use compare::harness::difference::Difference;
+use compare::harness::guarded::Guarded;
+use compare::harness::shrink::shrunk;
+use compare::harness::sides::{Sides, random};
+use compare::harness::tally::Tally;
 use compare::options::Options;
-use compare::shrink::shrunk;
-use compare::tally::{Demands, Tally};
 use guard::{Edge, report_faults, under_way};
 use std::process::ExitCode;
 use std::time::Instant;
@@ -43,8 +46,9 @@ fn main() -> ExitCode {
                     return ExitCode::FAILURE;
                 }
             };
-            println!("{words}: {:<6} {:>6} accepted", call.name, tally.hits(0));
-            let shortfalls = Demands::of(&tally).accepted(1).only_those_of(call).short();
+            println!("{words}: {:<6} {:>6} accepted", call.name, tally.accepted());
+            let demands = Demands::of(&tally).accepted(1).only(call.refusals);
+            let shortfalls = demands.short();
             if !shortfalls.is_empty() {
                 println!("TOO FEW: {}", shortfalls.join("; "));
                 return ExitCode::FAILURE;
@@ -62,13 +66,12 @@ fn guarded(
     edge: Edge,
     seed: u64,
     cases: usize,
-) -> Result<Tally, Box<compare::difference::Difference>> {
+) -> Result<Tally, Box<Difference>> {
     let mut sides = Sides::new(Guarded::new(edge));
     let mut tally = Tally::default();
-    let mut each = |input: &_| -> Outcome {
+    random(call, seed, cases, &mut |input| {
         under_way(call.name, tally.total());
         sides.ask(call, input, &mut tally)
-    };
-    call.random(seed, cases, &mut each)?;
+    })?;
     Ok(tally)
 }

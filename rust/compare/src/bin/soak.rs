@@ -1,13 +1,13 @@
 //! Compares the engines for a number of minutes, from a random seed. At the first difference prints
 //! the seed that makes it, and the input shrunk to a small one, and ends with status 1.
 
-use compare::call::{Call, Sides};
-use compare::difference::Difference;
-use compare::input::Input;
+use compare::harness::call::Call;
+use compare::harness::shrink::shrunk;
+use compare::harness::sides::{Outcome, Sides, random};
+use compare::harness::slots::Input;
+use compare::harness::tally::Tally;
+use compare::inputs::rng::Rng;
 use compare::options::Options;
-use compare::rng::Rng;
-use compare::shrink::shrunk;
-use compare::tally::Tally;
 use std::hash::{BuildHasher, RandomState};
 use std::process::ExitCode;
 use std::time::{Duration, Instant};
@@ -44,7 +44,7 @@ fn main() -> ExitCode {
         }
     }
     for Soaked { call, tally, .. } in &soaked {
-        let accepted = tally.hits(0);
+        let accepted = tally.accepted();
         let all = tally.total();
         println!("{:<6} {all:>12} inputs, {accepted:>12} accepted", call.name);
     }
@@ -69,8 +69,10 @@ impl Soaked {
     }
 
     /// Goes through the inputs of one seed.
-    fn part(&mut self, seed: u64, cases: usize) -> Result<(), Box<Difference>> {
+    fn part(&mut self, seed: u64, cases: usize) -> Outcome {
         let Self { call, sides, tally } = self;
-        call.random(seed, cases, &mut |input| sides.ask(call, input, tally))
+        random(call, seed, cases, &mut |input| {
+            sides.ask(call, input, tally)
+        })
     }
 }

@@ -6,6 +6,8 @@ mod counting;
 mod page;
 mod timing;
 
+use compare::calls::measure_all;
+use compare::workload::loads;
 use counting::Counts;
 use std::env;
 use std::process::ExitCode;
@@ -13,7 +15,7 @@ use timing::Timing;
 
 fn main() -> ExitCode {
     let mut timing = Timing::new();
-    compare::workload::all(&mut timing);
+    measure_all(&mut timing, &loads());
     let rows = timing.rows;
     let counts = Counts::of(&rows);
     match &counts {

@@ -1,0 +1,24 @@
+//! The calls, a module for each: how its two engines are compared, and what is measured of it.
+
+use crate::harness::call::Call;
+use crate::workload::{Load, Measure};
+
+macro_rules! calls {
+    ($($call:ident)*) => {
+        $(pub mod $call;)*
+
+        /// The calls.
+        pub static ALL: &[Call] = &[$($call::CALL),*];
+
+        /// Measures every call on every load.
+        pub fn measure_all(measure: &mut impl Measure, loads: &[Load]) {
+            $(
+                for load in loads {
+                    $call::measure(measure, load);
+                }
+            )*
+        }
+    };
+}
+
+calls! { check run ready pair same route }

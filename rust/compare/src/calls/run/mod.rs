@@ -1,0 +1,64 @@
+//! The run: the answer and every byte lent.
+
+mod depth;
+
+use crate::harness::call::{Call, no_sweep};
+use crate::harness::slots::{Buffer, Lent, SCHEDULE, Slots, TABLE};
+use crate::inputs::buffers;
+use crate::inputs::steps::Steps;
+use crate::workload::{Load, Measure};
+use reference::{REPORT_ROOM, Reason};
+
+/// The run.
+pub const CALL: Call = Call {
+    name: "run",
+    about: "the run and every byte lent",
+    slots: Slots {
+        read: &[TABLE, SCHEDULE],
+        numbers: &[],
+        buffer: Buffer::Bytes("report buffer"),
+    },
+    refusals: &[&[Reason::ReportRoom], &Reason::OF_TABLE, &Reason::OF_FIRST],
+    cases: 240_000,
+    next: |rng, input| {
+        let Steps { table, schedule } = Steps::any(rng);
+        [input.read[0], input.read[1]] = [table, schedule];
+        let room = buffers::room(rng, REPORT_ROOM);
+        buffers::bytes(rng, &mut input.bytes, room);
+    },
+    sweep: no_sweep,
+    engine: |lent| order_engine::run::fields(lent.read[0], lent.read[1], lent.bytes).into(),
+    reference: |lent: Lent| {
+        let answer = reference::run(lent.read[0], lent.read[1], lent.bytes);
+        answer.map(|length| [length as u32]).into()
+    },
+    mistake: |asked| asked.unequal(),
+    note: |tally, asked| {
+        if asked.accepted() {
+            let [table, schedule, _] = &asked.input.read;
+            depth::note(tally, table, schedule, asked.reference.values[0]);
+        }
+    },
+    demands: |demands, _| {
+        let demands = demands.total("runs", 200_000).accepted(80_000);
+        let demands = demands
+            .refused(&Reason::OF_TABLE, 200)
+            .refused(&[Reason::ReportRoom], 5_000)
+            .places(&Reason::OF_FIRST, 2_000);
+        depth::demands(demands)
+    },
+};
+
+/// Measures it on a load.
+pub fn measure(measure: &mut impl Measure, load: &Load) {
+    let (mut ours, mut theirs) = ([0; REPORT_ROOM], [0; REPORT_ROOM]);
+    measure.measure(
+        CALL.name,
+        load,
+        |work| {
+            let report = order_engine::run(&work.table, &work.first, &mut ours);
+            report.expect("accepted").bytes().len()
+        },
+        |work| reference::run(&work.table, &work.first, &mut theirs).expect("accepted"),
+    );
+}

@@ -1,0 +1,160 @@
+//! The same verdict; on short schedules also held to a search through all chains. Where it says
+//! "same", both schedules must lead to one report and one ready answer.
+
+mod reversed;
+
+use crate::harness::asked::Asked;
+use crate::harness::call::{Call, no_sweep};
+use crate::harness::slots::{Buffer, FIRST, Lent, SECOND, Slots, TABLE};
+use crate::harness::tally::Tally;
+use crate::inputs::twins::Twins;
+use crate::workload::{Load, Measure};
+use order_engine::REPORT_ROOM;
+use reference::{Reason, chain_exists, check, quick};
+
+/// The same verdict.
+pub const CALL: Call = Call {
+    name: "same",
+    about: "the same verdict",
+    slots: Slots {
+        read: &[TABLE, FIRST, SECOND],
+        numbers: &[],
+        buffer: Buffer::None,
+    },
+    refusals: &[&Reason::OF_TABLE, &Reason::OF_FIRST, &Reason::OF_SECOND],
+    cases: 130_000,
+    next: |rng, input| input.read = Twins::any(rng).slices(),
+    sweep: no_sweep,
+    engine: |lent| {
+        let [table, first, second] = lent.read;
+        order_engine::same::fields(table, first, second).into()
+    },
+    reference: |lent: Lent| {
+        let [table, first, second] = lent.read;
+        let answer = reference::same(table, first, second);
+        answer.map(|same| [u32::from(same)]).into()
+    },
+    mistake,
+    note,
+    demands: |demands, tally| {
+        let quarter = tally.accepted() / 4;
+        let tenth = tally.noted(DIFFERENT) / 10;
+        demands
+            .accepted(100_000)
+            .refused(&Reason::OF_TABLE, 100)
+            .places(&Reason::OF_FIRST, 200)
+            .places(&Reason::OF_SECOND, 200)
+            .notes(&[SAME, DIFFERENT], quarter)
+            .notes(&[ALIKE], quarter / 2)
+            .notes(&[FIRST_SHORTER, SECOND_SHORTER], tenth)
+            .notes(&[SEARCHED_SAME, SEARCHED_DIFFERENT], 5_000)
+            .notes(&[LONG], 500)
+            .kinds(reversed::dependent_kinds(), 100)
+    },
+};
+
+/// The longest schedules for which all chains are searched.
+const SEARCHED: usize = 7;
+
+const SAME: &str = "same";
+const DIFFERENT: &str = "different";
+const ALIKE: &str = "different, with equal names";
+const FIRST_SHORTER: &str = "different, the first shorter";
+const SECOND_SHORTER: &str = "different, the second shorter";
+const SEARCHED_SAME: &str = "same, all chains searched";
+const SEARCHED_DIFFERENT: &str = "different, all chains searched";
+const LONG: &str = "of 256 entries";
+
+/// Unequal answers; a search through all chains that finds otherwise; two ends of one run.
+fn mistake(asked: &Asked) -> Option<String> {
+    let unequal = asked.unequal();
+    if unequal.is_some() || !asked.accepted() {
+        return unequal;
+    }
+    let [table, first, second] = &asked.input.read;
+    let same = asked.reference.values[0] == 1;
+    if searched(asked) {
+        let table = check(table).expect("the table is accepted");
+        let found = chain_exists(&table, first, second);
+        if found != same {
+            return Some(format!("a search through all chains says {found}"));
+        }
+    }
+    same.then(|| two_ends(table, first, second)).flatten()
+}
+
+/// Where two schedules of one run end otherwise, by either engine.
+fn two_ends(table: &[u8], first: &[u8], second: &[u8]) -> Option<String> {
+    let ours = |schedule: &[u8]| {
+        let mut buffer = [0; REPORT_ROOM];
+        let answer = order_engine::run::fields(table, schedule, &mut buffer);
+        (answer, buffer, order_engine::ready::fields(table, schedule))
+    };
+    if ours(first) != ours(second) {
+        return Some("the engine's two ends differ".to_string());
+    }
+    let theirs = |schedule: &[u8]| {
+        let mut buffer = [0; REPORT_ROOM];
+        let answer = reference::run(table, schedule, &mut buffer);
+        (answer, buffer, reference::ready(table, schedule))
+    };
+    (theirs(first) != theirs(second)).then(|| "the reference's two ends differ".to_string())
+}
+
+/// Whether all chains are searched.
+fn searched(asked: &Asked) -> bool {
+    asked.accepted() && asked.input.read[1].len() <= SEARCHED
+}
+
+fn note(tally: &mut Tally, asked: &Asked) {
+    if !asked.accepted() {
+        return;
+    }
+    let [table, first, second] = &asked.input.read;
+    let same = asked.reference.values[0] == 1;
+    tally.note(if same { SAME } else { DIFFERENT });
+    if searched(asked) {
+        tally.note(if same {
+            SEARCHED_SAME
+        } else {
+            SEARCHED_DIFFERENT
+        });
+    }
+    if first.len() == 256 && second.len() == 256 {
+        tally.note(LONG);
+    }
+    if same {
+        return;
+    }
+    if first.len() < second.len() {
+        tally.note(FIRST_SHORTER);
+    }
+    if second.len() < first.len() {
+        tally.note(SECOND_SHORTER);
+    }
+    let sorted = |schedule: &[u8]| {
+        let mut schedule = schedule.to_vec();
+        schedule.sort_unstable();
+        schedule
+    };
+    if sorted(first) == sorted(second) {
+        tally.note(ALIKE);
+        reversed::note(tally, table, first, second);
+    }
+}
+
+/// Measures it on a load.
+pub fn measure(measure: &mut impl Measure, load: &Load) {
+    measure.measure(
+        CALL.name,
+        load,
+        |work| {
+            let answer = order_engine::same(&work.table, &work.first, &work.second);
+            usize::from(answer.is_ok_and(|same| same.is_same()))
+        },
+        |work| {
+            let verdict = quick::same(&work.table, &work.first, &work.second);
+            usize::from(verdict == Ok(true))
+        },
+    );
+}

@@ -1,0 +1,24 @@
+//! What the calls are given.
+//!
+//! - [`rng`]: random numbers;
+//! - [`sample`], [`mix`], [`damage`], [`families`]: tables that are right, how often each kind comes in
+//!   them, ways to spoil them, and families of both;
+//! - [`contended`], [`walk`], [`entries`]: tables made for stepping, accepted schedules, and
+//!   schedules with a refused entry;
+//! - [`interleave`]: from one schedule to another with the same steps;
+//! - [`steps`], [`twins`]: tables with one schedule or with two; [`deep`]: those with full queues;
+//! - [`buffers`]: lent buffers.
+
+pub mod buffers;
+pub mod contended;
+pub mod damage;
+pub mod deep;
+pub mod entries;
+pub mod families;
+pub mod interleave;
+pub mod mix;
+pub mod rng;
+pub mod sample;
+pub mod steps;
+pub mod twins;
+pub mod walk;
