@@ -1,6 +1,7 @@
 # make run      the main job: the listing of each folder of examples/, or of SITE=folder
-# make test     everything: layout, the trust list, every proof and must-fail edit, the Rust side, the calls from C, the listings, the comparison;
-#               then the seconds of each, and the verdict
+# make test     everything: the documents, layout, the trust list, every proof and must-fail edit, the Rust side, the calls from C, the examples, the
+#               listings, the comparison; then the seconds of each, and the verdict
+# make docs     the Markdown files: code blocks against the files that they are taken from, links
 # make trust    the list of what a reader must believe, docs/PROOFS.md, compared with the definition files
 # make compare  the proved calls compared with the reference
 # make bench    the proved engine's times and instructions against the reference's; writes docs/BENCHMARK.md
@@ -22,11 +23,12 @@ TURNS := $(CURDIR)/target/bin/turns
 
 WARNINGS := -Wall -Wextra -Wpedantic -Werror -Wshadow -Wconversion -Wstrict-prototypes -Wmissing-prototypes -Wcast-qual
 CFLAGS := -std=c11 -O1 $(WARNINGS)
+CXXFLAGS := -std=c++11 -Wall -Wextra -Wpedantic -Werror
 
-.PHONY: run test trust compare bench soak lib program layout rust c-test listings guarded proofs clean
+.PHONY: run test docs trust compare bench soak lib program layout rust c-test examples listings guarded proofs toolchain clean
 .NOTPARALLEL:
 
-run: program
+run: toolchain program
 ifeq ($(SITE),)
 	@for folder in examples/*/*/; do echo "$$folder"; (cd "$$folder" && "$(TURNS)") || exit 1; done
 else
@@ -35,18 +37,24 @@ endif
 
 # Stage by stage, and none after one that fails. `rt ci` comes before all that is built: it removes target/, and the rest is built from what it
 # proves anew. The library is then built once, and the stages after that need no LIB.
-test:
+test: toolchain
 	@mkdir -p $(GATE) && : > $(GATE)/times && date +%s > $(GATE)/began
+	@$(STAGE) 'documents' $(MAKE) docs
 	@$(STAGE) 'layout' $(MAKE) layout
 	@$(STAGE) 'trust list' $(MAKE) trust
 	@tests/gate/proofs $(PROOFS)
 	@$(STAGE) 'library' $(MAKE) lib
 	@$(STAGE) 'Rust side' $(MAKE) rust LIB=
 	@$(STAGE) 'C calls' $(MAKE) c-test LIB=
+	@$(STAGE) 'examples' $(MAKE) examples LIB=
 	@$(STAGE) 'listings' $(MAKE) listings
 	@$(STAGE) 'comparison' $(MAKE) compare LIB=
 	@$(STAGE) 'guard pages' $(MAKE) guarded LIB=
 	@tests/gate/summary
+
+docs:
+	tests/docs/check --self-test
+	tests/docs/check
 
 trust:
 	tests/trust/check
@@ -84,16 +92,30 @@ rust: $(LIB)
 	$(CARGO) test $(LOCKED) --quiet --workspace
 	$(CARGO) doc $(LOCKED) --quiet --workspace --no-deps --config 'build.rustdocflags = ["-D", "warnings"]'
 
+# The header is read as C++ too, where there is a compiler for it.
 c-test: $(LIB)
 	mkdir -p target/c-test
-	$(CC) $(CFLAGS) -Iinclude tests/c/calls.c target/staticlib/liborder_ffi.a -o target/c-test/calls
-	target/c-test/calls
+	$(CC) $(CFLAGS) -Iinclude tests/c/*.c target/staticlib/liborder_ffi.a -o target/c-test/calls
+	target/c-test/calls tests/turns/document/site.tab
+	@if command -v $(CXX) > /dev/null; then \
+	    $(CXX) $(CXXFLAGS) -fsyntax-only -Iinclude tests/c/header.cpp && echo 'order.h as C++: accepted'; \
+	else \
+	    echo 'order.h as C++: no compiler, not tried'; \
+	fi
+
+# The programs that README.md and docs/FORMAT.md show.
+examples: $(LIB)
+	tests/examples/run
 
 listings: program
 	tests/turns/run
 
 proofs:
 	$(PROOFS)
+
+# Warns of other versions.
+toolchain:
+	@tests/gate/toolchain
 
 clean:
 	rm -rf target rust/target

@@ -2,12 +2,12 @@
  *
  * A slice is passed as a pointer and a number of elements. A call reads and writes no byte outside
  * the slices that it is lent, and writes only the report and the route; it keeps no pointer and has
- * no state. A pointer is never null, also not where the length is 0, and is aligned for its type.
- * Slices that are written share no byte with another.
+ * no state. Where the number is 0, the pointer may be null. Otherwise it points at so many elements
+ * and is aligned for their type. A slice that is written shares no byte with another.
  *
  * In every answer `refusal` is 0 where the call accepted, otherwise the number of the refusal, and
  * `position` is its position; the other fields are then 0. A call that refuses changes nothing that
- * it was lent.
+ * it was lent. docs/FORMAT.md says what the bytes of a table and of a report are.
  */
 #ifndef ORDER_H
 #define ORDER_H
@@ -19,27 +19,55 @@
 extern "C" {
 #endif
 
+/* Why a call refuses: what `refusal` is in every answer. */
+enum OrderRefusal {
+    ORDER_ACCEPTED = 0,
+
+    /* The table, in this order; position 0. */
+    ORDER_REFUSED_SHORT_TABLE = 1, /* it has under 4 bytes */
+    ORDER_REFUSED_EDITION = 2,     /* its edition is not 1 */
+    ORDER_REFUSED_COUNT = 3,       /* the number of actors, mailboxes or mutexes is out of its range */
+    ORDER_REFUSED_DIRECTORY = 4,   /* the directory is cut short, or an entry has a wrong offset or over 32 actions */
+    ORDER_REFUSED_TABLE_END = 5,   /* it does not end with the last actor's last action */
+
+    /* Each action of the table in turn, in this order; position its offset. */
+    ORDER_REFUSED_KIND = 6,   /* the kind is over 10 */
+    ORDER_REFUSED_RANGE = 7,  /* a cell, mailbox, mutex, list length or listed mutex is out of range */
+    ORDER_REFUSED_LISTED = 8, /* a listed action is not a lower Send or Receive of its actor */
+    ORDER_REFUSED_UNUSED = 9, /* a byte without a use is not 0 */
+
+    /* The report buffer; position 0. */
+    ORDER_REFUSED_REPORT_ROOM = 10, /* it has under ORDER_REPORT_ROOM bytes */
+
+    /* An entry of the schedule, or of the first of two; position its index. */
+    ORDER_REFUSED_NO_ACTOR = 11,  /* it names no actor */
+    ORDER_REFUSED_FINISHED = 12,  /* its actor is finished */
+    ORDER_REFUSED_NOT_READY = 13, /* its actor is not ready */
+
+    /* An entry of the second schedule; position its index. */
+    ORDER_REFUSED_SECOND_NO_ACTOR = 14,  /* it names no actor */
+    ORDER_REFUSED_SECOND_FINISHED = 15,  /* its actor is finished */
+    ORDER_REFUSED_SECOND_NOT_READY = 16, /* its actor is not ready */
+
+    /* The names of two steps; position 0. */
+    ORDER_REFUSED_NO_STEP = 17, /* one of them, or both, is not in the table */
+
+    /* The route; position 0. */
+    ORDER_REFUSED_ROUTE_ROOM = 18, /* its buffer has under ORDER_ROUTE_ROOM(m) entries, m the schedules' length */
+    ORDER_REFUSED_DIFFERENT = 19   /* the schedules are different: there is none */
+};
+
 /* Whether a file is a task table. */
 typedef struct {
     uint32_t refusal;
     uint32_t position;
 } OrderCheck;
 
-/* Reads `length` bytes at `table`, of any length, as a task table.
- *
- *   refusal  position       the first thing that is wrong
- *   0        0              nothing: the table is accepted
- *   1        0              the file has under 4 bytes
- *   2        0              the edition is not 1
- *   3        0              the number of actors, mailboxes or mutexes is out of its range
- *   4        0              the directory is cut short, or an entry has a wrong offset or over 32 actions
- *   5        0              the file does not end with the last actor's last action
- *   6        action offset  the kind is over 10
- *   7        action offset  a cell, mailbox, mutex, list length or listed mutex is out of range
- *   8        action offset  a listed action is not a lower Send or Receive of its actor
- *   9        action offset  a byte without a use is not 0
- */
+/* Reads `length` bytes at `table`, of any length, as a task table. Refusals: 1 to 9. */
 OrderCheck order_check(const uint8_t *table, size_t length);
+
+/* The bytes that order_run wants lent. No report is longer. */
+#define ORDER_REPORT_ROOM 2912
 
 /* What a run answers: the length of the report that was written. */
 typedef struct {
@@ -49,19 +77,22 @@ typedef struct {
 } OrderRun;
 
 /* Runs a schedule, one byte for each entry, from a fresh site and writes the state report of its end into
- * the first bytes of `report`; the bytes after it stay as they were.
- *
- *   refusal  position       what is wrong, in this order
- *   10       0              the report buffer has under 2,912 bytes
- *   1 to 9   as above       the table is refused
- *   11       entry's index  the entry names no actor
- *   12       entry's index  the entry's actor is finished
- *   13       entry's index  the entry's actor is not ready
+ * the first bytes of `report`; the bytes after it stay as they were. Refusals, in this order: 10; 1 to 9;
+ * 11 to 13.
  */
 OrderRun order_run(const uint8_t *table, size_t table_length, const uint8_t *schedule, size_t schedule_length,
                    uint8_t *report, size_t report_length);
 
-/* The ready answer: bit i of `mask` is actor i's, `count` is how many are ready; `ending` is 0 finished, 1 stuck, 2 going. */
+/* How a state stands. */
+enum OrderEnding {
+    ORDER_FINISHED = 0, /* every actor is finished */
+    ORDER_STUCK = 1,    /* not every actor is finished, and none is ready: a deadlock */
+    ORDER_GOING = 2     /* some actor is ready */
+};
+
+/* The ready answer: bit i of `mask`, from the lowest, is actor i's, `count` is how many are ready, `ending` is
+ * an OrderEnding.
+ */
 typedef struct {
     uint32_t refusal;
     uint32_t position;
@@ -70,10 +101,16 @@ typedef struct {
     uint32_t ending;
 } OrderReady;
 
-/* Which actors are ready at the end of a schedule from a fresh site. Refusals 1 to 9, then 11 to 13, as for order_run. */
+/* Which actors are ready at the end of a schedule from a fresh site. Refusals, in this order: 1 to 9; 11 to 13. */
 OrderReady order_ready(const uint8_t *table, size_t table_length, const uint8_t *schedule, size_t schedule_length);
 
-/* The pair verdict: `verdict` is 0 independent, 1 dependent. */
+/* What order_pair says of two steps. */
+enum OrderPairVerdict {
+    ORDER_INDEPENDENT = 0, /* they may trade places where they are neighbours */
+    ORDER_DEPENDENT = 1    /* their order matters */
+};
+
+/* The pair verdict: `verdict` is an OrderPairVerdict. */
 typedef struct {
     uint32_t refusal;
     uint32_t position;
@@ -81,15 +118,18 @@ typedef struct {
 } OrderPair;
 
 /* Whether two steps, each named by its actor and action, are dependent, judged from the table alone.
- *
- *   refusal  position       what is wrong, in this order
- *   1 to 9   as above       the table is refused
- *   17       0              one of the steps, or both, is not in the table
+ * Refusals, in this order: 1 to 9; 17.
  */
 OrderPair order_pair(const uint8_t *table, size_t table_length, uint8_t first_actor, uint8_t first_action,
                      uint8_t second_actor, uint8_t second_action);
 
-/* The same verdict: `verdict` is 0 different, 1 same. */
+/* What order_same says of two schedules. */
+enum OrderSameVerdict {
+    ORDER_DIFFERENT = 0, /* no exchanges turn the first into the second */
+    ORDER_SAME = 1       /* some do: the two are one run */
+};
+
+/* The same verdict: `verdict` is an OrderSameVerdict. */
 typedef struct {
     uint32_t refusal;
     uint32_t position;
@@ -97,17 +137,15 @@ typedef struct {
 } OrderSame;
 
 /* Whether exchanges of independent neighbours turn the first schedule into the second. Schedules of
- * different lengths are different.
- *
- *   refusal  position       what is wrong, in this order
- *   1 to 9   as above       the table is refused
- *   11       entry's index  an entry of the first schedule names no actor
- *   12       entry's index  an entry of the first schedule names a finished actor
- *   13       entry's index  an entry of the first schedule names an actor that is not ready
- *   14 to 16 entry's index  likewise, of the second schedule
+ * different lengths are different. Refusals, in this order: 1 to 9; 11 to 13; 14 to 16.
  */
 OrderSame order_same(const uint8_t *table, size_t table_length, const uint8_t *first, size_t first_length,
                      const uint8_t *second, size_t second_length);
+
+/* The entries that order_route wants lent for schedules of m entries: m (m - 1) / 2. A constant where m is one;
+ * m is evaluated twice.
+ */
+#define ORDER_ROUTE_ROOM(m) ((size_t)(m) * ((size_t)(m) - 1) / 2)
 
 /* What a route answers: the number of positions that were written. */
 typedef struct {
@@ -118,12 +156,7 @@ typedef struct {
 
 /* Writes a route from the first schedule to the second into the first entries of `route`: positions k,
  * each exchanging entries k and k + 1 of what the ones before it left. The entries after it stay as they
- * were. `route_length` counts entries, not bytes; a route of schedules of m entries wants m (m - 1) / 2.
- *
- *   refusal  position       what is wrong, in this order
- *   1 to 16  as above       as for order_same
- *   19       0              the schedules are different: there is no route
- *   18       0              the route buffer has under m (m - 1) / 2 entries
+ * were. `route_length` counts entries, not bytes. Refusals, in this order: 1 to 9; 11 to 13; 14 to 16; 19; 18.
  */
 OrderRoute order_route(const uint8_t *table, size_t table_length, const uint8_t *first, size_t first_length,
                        const uint8_t *second, size_t second_length, uint16_t *route, size_t route_length);

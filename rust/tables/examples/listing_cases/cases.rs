@@ -1,0 +1,193 @@
+//! The cases, with what document 01 asks to be printed.
+
+use crate::case::{Case, File};
+use tables::action::{add, lock, mutex_wait, receive, wait_any};
+use tables::layout::{ACTION, LONGEST, MOST, MOST_ACTIONS};
+use tables::{Kind, Layout, TABLE_A};
+
+/// All of them.
+pub fn cases() -> Vec<Case> {
+    let mut cases = plain();
+    cases.extend(refused_tables());
+    cases.extend(refused_schedules());
+    cases.extend(limits());
+    cases.extend(ends());
+    cases.extend(unreadable());
+    cases
+}
+
+/// Document 01's own, and absent and empty files.
+fn plain() -> Vec<Case> {
+    let document = ["0 0", "1 0", "0 1", "1 1", "end finished"];
+    let other = ["1 0", "0 0", "0 1", "1 1", "end finished"];
+    vec![
+        Case::new("document", TABLE_A, [0, 1, 0, 1], document),
+        Case::new("other-order", TABLE_A, [1, 0, 0, 1], other),
+        Case::new(
+            "absent-both",
+            File::Absent,
+            File::Absent,
+            ["refused 1 at 0"],
+        ),
+        Case::new(
+            "absent-table",
+            File::Absent,
+            [0, 1, 0, 1],
+            ["refused 1 at 0"],
+        ),
+        Case::new("absent-schedule", TABLE_A, File::Absent, ["end going"]),
+        Case::new("empty-table", [], [0], ["refused 1 at 0"]),
+        Case::new("empty-schedule", TABLE_A, [], ["end going"]),
+    ]
+}
+
+/// Table A with the byte at `offset` replaced.
+fn changed(offset: usize, byte: u8) -> Vec<u8> {
+    let mut table = TABLE_A.to_vec();
+    table[offset] = byte;
+    table
+}
+
+/// The table with zeros after its end.
+fn followed(mut table: Vec<u8>, zeros: usize) -> Vec<u8> {
+    table.resize(table.len() + zeros, 0);
+    table
+}
+
+fn refused_tables() -> Vec<Case> {
+    let refused = |name, table: Vec<u8>, line| Case::new(name, table, [0], [line]);
+    let too_many = vec![add(0, 1); MOST_ACTIONS + 1];
+    let too_many = Layout::new(0, 0, &[&too_many]).bytes();
+    vec![
+        refused("refused-1", TABLE_A[..3].into(), "refused 1 at 0"),
+        refused("refused-2", changed(0, 2), "refused 2 at 0"),
+        refused(
+            "refused-3-actors",
+            Layout::default().bytes(),
+            "refused 3 at 0",
+        ),
+        refused("refused-3-mailboxes", changed(2, 9), "refused 3 at 0"),
+        refused("refused-4-cut", TABLE_A[..11].into(), "refused 4 at 0"),
+        refused("refused-4-offset", changed(8, 29), "refused 4 at 0"),
+        refused("refused-4-count", too_many, "refused 4 at 0"),
+        refused("refused-5-short", TABLE_A[..43].into(), "refused 5 at 0"),
+        refused(
+            "refused-5-long",
+            followed(TABLE_A.into(), 1),
+            "refused 5 at 0",
+        ),
+        refused("refused-6", changed(12, 255), "refused 6 at 12"),
+        refused("refused-7-z", changed(39, 0), "refused 7 at 36"),
+        refused("refused-7-mailbox", changed(21, 1), "refused 7 at 20"),
+        refused("refused-8", changed(40, 1), "refused 8 at 36"),
+        refused("refused-9", changed(15, 1), "refused 9 at 12"),
+    ]
+}
+
+fn refused_schedules() -> Vec<Case> {
+    vec![
+        Case::new("refused-11", TABLE_A, [2], ["refused 11 at 0"]),
+        Case::new(
+            "refused-11-newline",
+            TABLE_A,
+            [0, 1, 0, 1, b'\n'],
+            ["refused 11 at 4"],
+        ),
+        Case::new("refused-12", TABLE_A, [0, 0, 0], ["refused 12 at 2"]),
+        Case::new("refused-13", TABLE_A, [1, 1], ["refused 13 at 1"]),
+        Case::new(
+            "table-before-schedule",
+            &TABLE_A[..43],
+            [9],
+            ["refused 5 at 0"],
+        ),
+    ]
+}
+
+/// The largest table: every action is an Add of cells 0 and 1.
+fn largest() -> Vec<u8> {
+    let script = [add(0, 1); MOST_ACTIONS];
+    Layout::new(MOST, MOST, &[script.as_slice(); MOST as usize]).bytes()
+}
+
+/// So many entries for the largest table: each actor in turn.
+fn turns(entries: usize) -> Vec<u8> {
+    (0..MOST).cycle().take(entries).collect()
+}
+
+/// The largest table, and one byte more; as many entries as it has actions, and one more.
+fn limits() -> Vec<Case> {
+    let entries = MOST_ACTIONS * usize::from(MOST);
+    let mut lines: Vec<String> = (0..MOST_ACTIONS)
+        .flat_map(|action| (0..MOST).map(move |actor| format!("{actor} {action}")))
+        .collect();
+    lines.push("end finished".into());
+    let lines = lines.iter().map(String::as_str);
+    let mut unknown = largest();
+    unknown[LONGEST - ACTION] = Kind::COUNT as u8;
+    let mut absent = turns(entries);
+    absent.push(MOST);
+    vec![
+        Case::new("largest-table", largest(), turns(entries), lines),
+        Case::new("largest-table-idle", largest(), [], ["end going"]),
+        Case::new("largest-table-last", unknown, [], ["refused 6 at 2076"]),
+        Case::new(
+            "largest-and-a-byte",
+            followed(largest(), 1),
+            [0],
+            ["refused 5 at 0"],
+        ),
+        Case::new(
+            "largest-and-many",
+            followed(largest(), 4000),
+            [0],
+            ["refused 5 at 0"],
+        ),
+        Case::new("long-no-table", [7; 3000], [0], ["refused 2 at 0"]),
+        Case::new(
+            "entries-257-finished",
+            largest(),
+            turns(entries + 1),
+            ["refused 12 at 256"],
+        ),
+        Case::new(
+            "entries-257-absent",
+            largest(),
+            absent,
+            ["refused 11 at 256"],
+        ),
+        Case::new(
+            "entries-many",
+            largest(),
+            turns(8 * entries),
+            ["refused 12 at 256"],
+        ),
+    ]
+}
+
+/// Sites that are stuck, and one that is finished at once.
+fn ends() -> Vec<Case> {
+    // One actor waits for what nobody sends.
+    let alone = [receive(0, 2), wait_any(3, &[0])];
+    let alone = Layout::new(1, 0, &[&alone]).bytes();
+    // Two actors, each with the mutex that the other waits for.
+    let crossed =
+        [(0, 1), (1, 0)].map(|(own, other)| [lock(own), lock(other), mutex_wait(0, &[other])]);
+    let crossed = Layout::new(0, 2, &[&crossed[0], &crossed[1]]).bytes();
+    let steps = ["0 0", "1 0", "0 1", "1 1", "end stuck"];
+    // An actor without actions.
+    let idle = Layout::new(0, 0, &[&[]]).bytes();
+    vec![
+        Case::new("stuck-receive", alone, [0], ["0 0", "end stuck"]),
+        Case::new("stuck-mutexes", crossed, [0, 1, 0, 1], steps),
+        Case::new("finished-at-once", idle, [], ["end finished"]),
+    ]
+}
+
+/// A file that is there and cannot be read: no listing.
+fn unreadable() -> Vec<Case> {
+    vec![
+        Case::new("unreadable-table", File::Folder, [0], []),
+        Case::new("unreadable-schedule", TABLE_A, File::Folder, []),
+    ]
+}

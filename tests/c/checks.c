@@ -1,0 +1,62 @@
+/* Checks that are counted, and what a call is lent. */
+#include "checks.h"
+
+#include <stdio.h>
+#include <string.h>
+
+int failures;
+
+void expect(int holds, const char *call, const char *what)
+{
+    if (!holds) {
+        failures++;
+        printf("%s: %s\n", call, what);
+    }
+}
+
+void expect_number(uint32_t is, uint32_t wanted, const char *call, const char *what)
+{
+    if (is != wanted) {
+        failures++;
+        printf("%s: %s is %lu, not %lu\n", call, what, (unsigned long)is, (unsigned long)wanted);
+    }
+}
+
+Lent lend(const uint8_t *table, size_t table_length, const uint8_t *first, size_t first_length,
+          const uint8_t *second, size_t second_length)
+{
+    Lent lent;
+    memset(&lent, 0xa5, sizeof lent);
+    lent.table_length = table_length;
+    lent.first_length = first_length;
+    lent.second_length = second_length;
+    lent.report_length = ORDER_REPORT_ROOM;
+    lent.route_length = ROUTE;
+    memcpy(lent.table, table, table_length);
+    memcpy(lent.first, first, first_length);
+    memcpy(lent.second, second, second_length);
+    memcpy(lent.table_before, lent.table, sizeof lent.table);
+    memcpy(lent.first_before, lent.first, sizeof lent.first);
+    memcpy(lent.second_before, lent.second, sizeof lent.second);
+    memcpy(lent.report_before, lent.report, sizeof lent.report);
+    memcpy(lent.route_before, lent.route, sizeof lent.route);
+    return lent;
+}
+
+Lent with(const uint8_t *first, size_t first_length, const uint8_t *second, size_t second_length)
+{
+    return lend(table_a, sizeof table_a, first, first_length, second, second_length);
+}
+
+void expect_kept(const Lent *lent, size_t report, size_t route, const char *call)
+{
+    expect(memcmp(lent->table, lent->table_before, sizeof lent->table) == 0, call, "the table changed");
+    expect(memcmp(lent->first, lent->first_before, sizeof lent->first) == 0, call, "the first schedule changed");
+    expect(memcmp(lent->second, lent->second_before, sizeof lent->second) == 0, call,
+           "the second schedule changed");
+    expect(memcmp(lent->report + report, lent->report_before + report, sizeof lent->report - report) == 0, call,
+           "the report buffer changed where it may not");
+    expect(memcmp(lent->route + route, lent->route_before + route,
+                  sizeof lent->route - route * sizeof lent->route[0]) == 0,
+           call, "the route buffer changed where it may not");
+}

@@ -1,0 +1,73 @@
+/* order_run and order_ready, and the refusals of a schedule's entry. */
+#include "checks.h"
+
+#include <string.h>
+
+static void runs(void)
+{
+    static const uint8_t whole[] = {0, 1, 0, 1};
+    Lent lent = with(whole, 4, whole, 0);
+    OrderRun answer = order_run(lent.table, lent.table_length, lent.first, lent.first_length, lent.report,
+                                lent.report_length);
+    /* (a) */
+    static const uint8_t cells[8] = {149, 0, 0, 0, 1, 0, 0, 0};
+    expect_number(answer.refusal, ORDER_ACCEPTED, "order_run", "the refusal");
+    expect_number(answer.position, 0, "order_run", "the position");
+    expect_number(answer.length, 100, "order_run", "the report's length");
+    expect(memcmp(lent.report + 42, cells, 8) == 0, "order_run", "actor 1's cells 2 and 3 are not 149 and 1");
+    expect_kept(&lent, 100, 0, "order_run");
+
+    lent = with(whole, 4, whole, 0);
+    lent.report_length = ORDER_REPORT_ROOM - 1;
+    run_refused(lent, ORDER_REFUSED_REPORT_ROOM, 0);
+    /* It comes before all else. */
+    lent.table_length = 0;
+    run_refused(lent, ORDER_REFUSED_REPORT_ROOM, 0);
+}
+
+static void readies(Lent lent, uint32_t mask, uint32_t count, uint32_t ending)
+{
+    OrderReady answer = order_ready(lent.table, lent.table_length, lent.first, lent.first_length);
+    expect_number(answer.refusal, ORDER_ACCEPTED, "order_ready", "the refusal");
+    expect_number(answer.position, 0, "order_ready", "the position");
+    expect_number(answer.mask, mask, "order_ready", "the mask");
+    expect_number(answer.count, count, "order_ready", "the count");
+    expect_number(answer.ending, ending, "order_ready", "the ending");
+    expect_kept(&lent, 0, 0, "order_ready");
+}
+
+/* An entry refused `number` in the schedule or the first of two, `second` in the second. */
+static void entry_refused(const uint8_t *schedule, size_t length, uint32_t number, uint32_t second,
+                          uint32_t position)
+{
+    Lent lent = with(schedule, length, schedule, 0);
+    run_refused(lent, number, position);
+    ready_refused(lent, number, position);
+    /* The first schedule's refusal comes before the second's. */
+    static const uint8_t absent[] = {7};
+    same_refused(with(schedule, length, absent, 1), number, position);
+    route_refused(with(schedule, length, absent, 1), number, position);
+    same_refused(with(schedule, 0, schedule, length), second, position);
+    route_refused(with(schedule, 0, schedule, length), second, position);
+}
+
+void stepping(void)
+{
+    static const uint8_t one[] = {1, 1};
+    static const uint8_t done[] = {0, 0, 0};
+    static const uint8_t absent[] = {2};
+    static const uint8_t whole[] = {0, 1, 0, 1};
+    static const uint8_t waits[] = {
+        1, 1, 0, 1, 8, 0, 1, 0, 10, 0, 0, 1, 0, 0, 0, 0, /* one actor that waits for a mutex */
+    };
+    runs();
+    /* (b), (c), (d) */
+    entry_refused(one, 2, ORDER_REFUSED_NOT_READY, ORDER_REFUSED_SECOND_NOT_READY, 1);
+    entry_refused(done, 3, ORDER_REFUSED_FINISHED, ORDER_REFUSED_SECOND_FINISHED, 2);
+    entry_refused(absent, 1, ORDER_REFUSED_NO_ACTOR, ORDER_REFUSED_SECOND_NO_ACTOR, 0);
+    /* (e), (f) */
+    readies(with(one, 0, one, 0), 3, 2, ORDER_GOING);
+    readies(with(one, 1, one, 0), 1, 1, ORDER_GOING);
+    readies(with(whole, 4, whole, 0), 0, 0, ORDER_FINISHED);
+    readies(lend(waits, sizeof waits, waits, 0, waits, 0), 0, 0, ORDER_STUCK);
+}
