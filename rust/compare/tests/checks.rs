@@ -1,0 +1,108 @@
+//! What every call is held to, with engines made up for each mistake: it is found, and shown with its
+//! input.
+
+use compare::calls::{run, same};
+use compare::harness::call::Call;
+use compare::harness::sides::difference;
+use compare::harness::slots::{Input, Lent};
+use reference::REPORT_ROOM;
+use tables::TABLE_A;
+
+/// A run of table A with more room than its report takes.
+fn input(schedule: &[u8]) -> Input {
+    Input {
+        read: [TABLE_A.to_vec(), schedule.to_vec(), Vec::new()],
+        bytes: vec![7; REPORT_ROOM + 5],
+        ..Input::default()
+    }
+}
+
+/// What is said of the engine's answer to an input.
+fn said(call: &'static Call, input: &Input) -> String {
+    difference(call, input).expect("a difference").to_string()
+}
+
+/// The reference's answer, and a byte changed.
+fn spoilt(lent: Lent, at: usize) -> compare::harness::answer::Answer {
+    let Lent { read, bytes, .. } = lent;
+    let answer = reference::run(read[0], read[1], bytes);
+    bytes[at] ^= 1;
+    answer.map(|length| [length as u32]).into()
+}
+
+#[test]
+fn a_right_engine_has_no_difference() {
+    for schedule in [&[0, 1, 0, 1][..], &[1, 1]] {
+        assert!(difference(&run::CALL, &input(schedule)).is_none());
+    }
+}
+
+#[test]
+fn a_wrong_byte_of_the_report() {
+    static WRONG: Call = Call {
+        engine: |lent| spoilt(lent, 42),
+        ..run::CALL
+    };
+    assert!(said(&WRONG, &input(&[0, 1, 0, 1])).contains("lent 42: engine 148, reference 149"));
+}
+
+#[test]
+fn a_byte_after_the_report() {
+    static WRONG: Call = Call {
+        engine: |lent| spoilt(lent, 100),
+        // Even where the reference makes the same mistake.
+        reference: |lent| spoilt(lent, 100),
+        ..run::CALL
+    };
+    let said = said(&WRONG, &input(&[0, 1, 0, 1]));
+    assert!(said.contains("report buffer: index 100 changed, 100 were to be written"));
+}
+
+#[test]
+fn a_byte_at_a_refusal() {
+    static WRONG: Call = Call {
+        engine: |lent| spoilt(lent, 0),
+        reference: |lent| spoilt(lent, 0),
+        ..run::CALL
+    };
+    let said = said(&WRONG, &input(&[1, 1]));
+    assert!(said.contains("report buffer: index 0 changed, 0 were to be written"));
+}
+
+#[test]
+fn more_written_than_lent() {
+    static WRONG: Call = Call {
+        engine: |_| Ok([u32::MAX]).into(),
+        ..run::CALL
+    };
+    assert!(said(&WRONG, &input(&[])).contains("written of 2917 lent"));
+}
+
+#[test]
+fn a_number_beside_a_refusal() {
+    static WRONG: Call = Call {
+        engine: |lent| {
+            let mut answer = (same::CALL.engine)(lent);
+            answer.values[0] = 1;
+            answer
+        },
+        ..same::CALL
+    };
+    let said = said(&WRONG, &input(&[1, 1]));
+    assert!(said.contains("refused 13 at 1 with values [1, 0, 0] that have to be 0"));
+}
+
+#[test]
+fn a_panic_comes_with_its_input() {
+    static WRONG: Call = Call {
+        engine: |_| panic!("made up"),
+        ..run::CALL
+    };
+    let said = said(&WRONG, &input(&[0, 1]));
+    assert!(said.contains("made up"), "{said}");
+    assert!(
+        said.contains("schedule:        2 entries: [0, 1]"),
+        "{said}"
+    );
+    assert!(said.contains("44 bytes: 01 02 01 00 0c"), "{said}");
+}
