@@ -18,36 +18,43 @@ pub fn dependent(table: &Table, one: Name, other: Name) -> bool {
 
 /// Cases 1 and 3: both Send, both Receive on one mailbox, or both Lock on one mutex.
 fn compete(a: &Action, b: &Action) -> bool {
-    match (a, b) {
-        (Action::Send { mailbox: m, .. }, Action::Send { mailbox: n, .. })
-        | (Action::Receive { mailbox: m, .. }, Action::Receive { mailbox: n, .. })
-        | (Action::Lock { mutex: m }, Action::Lock { mutex: n }) => m == n,
-        _ => false,
+    match *a {
+        Action::Send { mailbox, .. } => {
+            matches!(*b, Action::Send { mailbox: m, .. } if m == mailbox)
+        }
+        Action::Receive { mailbox, .. } => {
+            matches!(*b, Action::Receive { mailbox: m, .. } if m == mailbox)
+        }
+        Action::Lock { mutex } => matches!(*b, Action::Lock { mutex: m } if m == mutex),
+        Action::Set { .. } | Action::Add { .. } | Action::Lesser { .. } => false,
+        Action::TestAny { .. } | Action::WaitAny { .. } | Action::Unlock { .. } => false,
+        Action::MutexTest { .. } | Action::MutexWait { .. } => false,
     }
 }
 
 /// Cases 2 and 4: `a`, of `actor`, lists a communication that `b` may complete, or a mutex that it
 /// unlocks.
 fn watches(table: &Table, actor: usize, a: &Action, b: &Action) -> bool {
-    match (a, b) {
-        (
-            Action::TestAny { actions, .. } | Action::WaitAny { actions, .. },
-            Action::Send { mailbox, .. } | Action::Receive { mailbox, .. },
-        ) => {
-            let sends = matches!(b, Action::Send { .. });
-            actions
-                .numbers()
-                .iter()
-                .any(|&number| match table.action(actor, usize::from(number)) {
-                    Action::Receive { mailbox: m, .. } => sends && m == *mailbox,
-                    Action::Send { mailbox: m, .. } => !sends && m == *mailbox,
-                    _ => unreachable!("a list names Sends and Receives"),
-                })
+    match a {
+        Action::TestAny { actions, .. } | Action::WaitAny { actions, .. } => {
+            let listed = actions.numbers().iter();
+            let mut listed = listed.map(|&number| table.action(actor, usize::from(number)));
+            listed.any(|post| completes(b, &post))
         }
-        (
-            Action::MutexTest { mutexes, .. } | Action::MutexWait { mutexes, .. },
-            Action::Unlock { mutex },
-        ) => mutexes.numbers().contains(mutex),
+        Action::MutexTest { mutexes, .. } | Action::MutexWait { mutexes, .. } => {
+            matches!(b, Action::Unlock { mutex } if mutexes.numbers().contains(mutex))
+        }
+        Action::Set { .. } | Action::Add { .. } | Action::Lesser { .. } => false,
+        Action::Send { .. } | Action::Receive { .. } => false,
+        Action::Lock { .. } | Action::Unlock { .. } => false,
+    }
+}
+
+/// Whether `step` is a Send on the mailbox of a listed Receive, or a Receive on that of a listed Send.
+fn completes(step: &Action, listed: &Action) -> bool {
+    match (step, listed) {
+        (Action::Send { mailbox: m, .. }, Action::Receive { mailbox: n, .. })
+        | (Action::Receive { mailbox: m, .. }, Action::Send { mailbox: n, .. }) => m == n,
         _ => false,
     }
 }

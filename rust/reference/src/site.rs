@@ -53,7 +53,9 @@ impl Site {
         match action {
             Action::WaitAny { actions, .. } => self.done_place(actor, actions) > 0,
             Action::MutexWait { mutexes, .. } => self.owned_place(actor, mutexes) > 0,
-            _ => true,
+            Action::Set { .. } | Action::Add { .. } | Action::Lesser { .. } => true,
+            Action::Send { .. } | Action::Receive { .. } | Action::TestAny { .. } => true,
+            Action::Lock { .. } | Action::Unlock { .. } | Action::MutexTest { .. } => true,
         }
     }
 
