@@ -3,6 +3,7 @@
 //! - [`kind`]: the kinds of action and what each uses its bytes for;
 //! - [`action`]: an action's eight bytes, one function for each kind;
 //! - [`layout`]: a table taken apart into its actors' actions, and put together;
+//! - [`text`]: a table as a text, a line for each action;
 //! - [`example`]: the specification's table A.
 //!
 //! Nothing here judges a table: whether one is accepted is the engine's to say.
@@ -13,6 +14,7 @@ pub mod action;
 pub mod example;
 pub mod kind;
 pub mod layout;
+pub mod text;
 
 pub use action::Action;
 pub use example::TABLE_A;

@@ -1,0 +1,58 @@
+//! `order ready`: who can go on after a schedule.
+
+use crate::answer::{Answer, Failure};
+use crate::command::{Command, Example, SCHEDULE, TABLE};
+use crate::given::Given;
+use crate::refusals::{Asked, refused};
+use crate::state::{State, Status};
+use crate::table::Table;
+use crate::waits::reason;
+use crate::words::step;
+use order_engine::REPORT_ROOM;
+use order_engine::report::Actor;
+
+/// The sub-command.
+pub static COMMAND: Command = Command {
+    name: "ready",
+    summary: "who can go on after a schedule, and who waits for what",
+    about: "\
+Runs a schedule from a fresh site and says of each actor whether it is ready, waits or is finished:
+its next step, and what it waits for.",
+    operands: &[TABLE, SCHEDULE],
+    options: &[],
+    example: Example {
+        line: "order ready loyalty-first/site.tab --text \"2 0\"",
+        output: "\
+going: 2 actors are ready
+actor 0 is ready: 0.1 Send to mailbox 0
+actor 1 is ready: 1.0 Set cell 0 to 139
+actor 2 waits: 2.1 WaitAny for 2.0; 2.0 Receive from mailbox 0 has met no Send
+",
+    },
+    run,
+};
+
+fn run(given: &Given) -> Result<Answer, Failure> {
+    let (table, schedule) = (given.file(&TABLE)?, given.schedule(&SCHEDULE)?);
+    let table = Table::accepted(table)?;
+    let mut buffer = [0; REPORT_ROOM];
+    let state = State::after(&table, &schedule, &mut buffer)
+        .map_err(|refusal| refused(refusal, &Asked::of_one(&table.bytes, &schedule)))?;
+    let mut text = format!("{}\n", state.ending());
+    text.extend(state.report.actors().map(|actor| stands(&state, &actor)));
+    Ok(Answer::of(text))
+}
+
+/// How an actor stands.
+fn stands(state: &State, actor: &Actor) -> String {
+    let number = actor.number;
+    let layout = &state.table.layout;
+    match state.status(actor) {
+        Status::Finished => format!("actor {number} is finished\n"),
+        Status::Ready(next) => format!("actor {number} is ready: {}\n", step(layout, next)),
+        Status::Waits(next) => {
+            let why = reason(state, next);
+            format!("actor {number} waits: {}; {why}\n", step(layout, next))
+        }
+    }
+}

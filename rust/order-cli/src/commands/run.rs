@@ -1,0 +1,67 @@
+//! `order run`: what a schedule leads to.
+
+use crate::answer::{Answer, Failure};
+use crate::command::{Choice, Command, Example, SCHEDULE, TABLE};
+use crate::files;
+use crate::given::Given;
+use crate::refusals::{Asked, refused};
+use crate::state::State;
+use crate::table::Table;
+use crate::words::count;
+use order_engine::REPORT_ROOM;
+
+const REPORT: Choice = Choice {
+    name: "--report",
+    value: Some("FILE"),
+    what: "also write the state report's bytes to FILE",
+};
+
+/// The sub-command.
+pub static COMMAND: Command = Command {
+    name: "run",
+    summary: "what a schedule leads to: positions, cells, queues",
+    about: "\
+Runs a schedule from a fresh site and says how the state stands that it leads to: finished, stuck
+or going; where each actor stands and what its eight cells hold; what waits in each mailbox; and who
+is queued for each mutex, the owner first.",
+    operands: &[TABLE, SCHEDULE],
+    options: &[REPORT],
+    example: Example {
+        line: "order run loyalty-first/site.tab --text \"0 0 1 1\"",
+        output: "\
+going: 1 actor is ready
+actor 0: at 2 of 2, finished
+  cells: 145 0 0 0 0 0 0 0
+actor 1: at 2 of 2, finished
+  cells: 139 0 0 0 0 0 0 0
+actor 2: at 0 of 2, next 2.0 Receive from mailbox 0, ready
+  cells: 0 0 0 0 0 0 0 0
+mailbox 0: 0.1 Send with 145, then 1.1 Send with 139
+",
+    },
+    run,
+};
+
+fn run(given: &Given) -> Result<Answer, Failure> {
+    let (table, schedule) = (given.file(&TABLE)?, given.schedule(&SCHEDULE)?);
+    let table = Table::accepted(table)?;
+    let mut buffer = [0; REPORT_ROOM];
+    let state = State::after(&table, &schedule, &mut buffer)
+        .map_err(|refusal| refused(refusal, &Asked::of_one(&table.bytes, &schedule)))?;
+    let mut text = format!("{}\n", state.ending());
+    text.extend(state.report.actors().map(|actor| state.actor(&actor)));
+    text.extend(
+        state
+            .report
+            .mailboxes()
+            .map(|mailbox| state.mailbox(&mailbox)),
+    );
+    text.extend(state.report.mutexes().map(|mutex| state.mutex(&mutex)));
+    if let Some(path) = given.path_after(&REPORT) {
+        let bytes = state.report.bytes();
+        files::write(path, bytes)?;
+        let written = count(bytes.len(), "byte", "bytes");
+        text += &format!("report: {written} written to {}\n", path.display());
+    }
+    Ok(Answer::of(text))
+}

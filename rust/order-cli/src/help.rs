@@ -1,0 +1,55 @@
+//! The help: of the whole, and of each sub-command.
+
+use crate::command::Command;
+use crate::commands;
+use std::fmt::Write;
+
+/// Asks for help.
+pub const HELP: &str = "--help";
+
+const STATUSES: &str = "\
+exit status
+  0  answered
+  1  refused: number, position and reason are on standard error
+  2  wrong use, a file that cannot be read or written, or a mistake in a text
+";
+
+/// What the command is, and its sub-commands.
+pub fn overview() -> String {
+    let mut text = "usage: order COMMAND ARGUMENTS\n\n\
+        What a controller's task table and an order of events (a schedule) do.\n\n"
+        .to_owned();
+    for command in commands::ALL {
+        let _ = writeln!(text, "  {:<7}{}", command.name, command.summary);
+    }
+    text += "\n`order COMMAND --help` says more.\n\n";
+    text += "A schedule is a file with a byte for each entry, the number of an actor; or, in its place,\n\
+        a text: --text \"0 1 0 1\".\n\n";
+    text + STATUSES
+}
+
+/// How a sub-command is used and what it does, with an example.
+pub fn of(command: &Command) -> String {
+    let mut text = format!("usage: {}\n\n{}\n\n", command.usage(), command.about);
+    let operands = command
+        .operands
+        .iter()
+        .map(|one| (one.name.to_owned(), one.what));
+    let options = command.options.iter().map(|one| (one.usage(), one.what));
+    for (name, what) in operands.chain(options) {
+        let _ = writeln!(text, "  {name:<15}{what}");
+    }
+    let _ = write!(text, "\n{STATUSES}\nexample, in examples/forecourt\n");
+    let _ = writeln!(text, "  $ {}", command.example.line);
+    for line in command.example.output.lines() {
+        let _ = writeln!(text, "{}", format!("  {line}").trim_end());
+    }
+    text
+}
+
+/// The usage, after wrong use.
+pub fn hint(command: &Command) -> String {
+    let usage = command.usage();
+    let name = command.name;
+    format!("usage: {usage}\n`order {name} {HELP}` says more.\n")
+}

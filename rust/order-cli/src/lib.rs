@@ -1,0 +1,64 @@
+//! The command `order`: asks the proved engine about a task table and its schedules, and answers in
+//! words.
+//!
+//! A sub-command is a module of [`commands`], and a line of its list. It takes what was
+//! [`given`](given::Given) on the command line and gives an [`Answer`](answer::Answer) or a
+//! [`Failure`](answer::Failure). What several of them say has a module here:
+//!
+//! - [`words`]: a step in words, [`rule`]: why two steps are dependent, [`waits`]: what a step waits
+//!   for;
+//! - [`names`]: the steps that a schedule runs, [`state`]: where it leads to, [`difference`]: how two
+//!   of them differ;
+//! - [`refusals`]: what a refusal points at.
+
+#![forbid(unsafe_code)]
+
+pub mod answer;
+pub mod command;
+pub mod commands;
+pub mod difference;
+pub mod files;
+pub mod given;
+pub mod help;
+pub mod names;
+pub mod refusals;
+pub mod rule;
+pub mod state;
+pub mod table;
+pub mod waits;
+pub mod words;
+
+use answer::{Answer, Failure, Said};
+use given::Given;
+use std::ffi::OsString;
+
+/// What the command says to these arguments.
+pub fn answer(arguments: &[OsString]) -> Said {
+    let Some((name, rest)) = arguments.split_first() else {
+        return Said::failed(help::overview(), answer::WRONG_USE);
+    };
+    if name == help::HELP {
+        return Answer::of(help::overview()).into();
+    }
+    let Some(command) = commands::ALL.iter().find(|command| name == command.name) else {
+        let name = name.display();
+        let words = format!("order: there is no command `{name}`\n{}", help::overview());
+        return Said::failed(words, answer::WRONG_USE);
+    };
+    if rest.iter().any(|argument| argument == help::HELP) {
+        return Answer::of(help::of(command)).into();
+    }
+    match Given::of(command, rest).and_then(|given| (command.run)(&given)) {
+        Ok(answer) => answer.into(),
+        Err(Failure::Refused(words)) => Said::failed(words, answer::REFUSED),
+        Err(Failure::Trouble(words)) => Said::failed(words, answer::WRONG_USE),
+        Err(Failure::Use(words)) => {
+            let words = format!(
+                "order {name}: {words}\n{}",
+                help::hint(command),
+                name = command.name
+            );
+            Said::failed(words, answer::WRONG_USE)
+        }
+    }
+}

@@ -1,0 +1,96 @@
+//! What a refusal points at, in words.
+
+mod action;
+mod entry;
+mod header;
+mod name;
+mod text;
+
+pub use text::place;
+
+use crate::answer::Failure;
+use crate::difference::difference;
+use crate::table::Table;
+use order_engine::{Reason, Refusal, StepName};
+use tables::Layout;
+
+/// What a call was asked about.
+#[derive(Clone, Copy, Debug, Default)]
+pub struct Asked<'a> {
+    /// The table's bytes.
+    pub table: &'a [u8],
+    /// The schedule, or the first of two.
+    pub first: &'a [u8],
+    /// The second schedule.
+    pub second: &'a [u8],
+    /// The steps.
+    pub steps: &'a [StepName],
+}
+
+impl<'a> Asked<'a> {
+    /// A question about a table alone.
+    pub fn of(table: &'a [u8]) -> Self {
+        Self {
+            table,
+            ..Self::default()
+        }
+    }
+
+    /// A question about a schedule.
+    pub fn of_one(table: &'a [u8], schedule: &'a [u8]) -> Self {
+        Self::of_two(table, schedule, &[])
+    }
+
+    /// A question about two schedules.
+    pub fn of_two(table: &'a [u8], first: &'a [u8], second: &'a [u8]) -> Self {
+        Self {
+            first,
+            second,
+            ..Self::of(table)
+        }
+    }
+
+    /// A question about steps.
+    pub fn of_steps(table: &'a [u8], steps: &'a [StepName]) -> Self {
+        Self {
+            steps,
+            ..Self::of(table)
+        }
+    }
+}
+
+/// A refusal in words, with what it points at.
+pub fn refused(refusal: Refusal, asked: &Asked) -> Failure {
+    Failure::Refused(format!("{refusal}\n{}", pointed(refusal, asked)))
+}
+
+/// What a refusal points at. A reason that has no words here is said by its sentence alone.
+fn pointed(refusal: Refusal, asked: &Asked) -> String {
+    let index = refusal.position() as usize;
+    match refusal.reason() {
+        Reason::ShortTable => header::length(asked.table),
+        Reason::Edition => header::edition(asked.table),
+        Reason::Count => header::counts(asked.table),
+        Reason::Directory => header::directory(asked.table),
+        Reason::TableEnd => header::end(asked.table),
+        Reason::Kind | Reason::Range | Reason::Listed | Reason::Unused => {
+            let layout = Layout::of(asked.table);
+            layout.map_or_else(String::new, |layout| action::words(refusal, &layout))
+        }
+        Reason::NoActor | Reason::Finished | Reason::NotReady => {
+            accepted(asked, |table| entry::words(table, asked.first, index))
+        }
+        Reason::SecondNoActor | Reason::SecondFinished | Reason::SecondNotReady => {
+            accepted(asked, |table| entry::words(table, asked.second, index))
+        }
+        Reason::NoStep => accepted(asked, |table| name::words(&table.layout, asked.steps)),
+        Reason::Different => accepted(asked, |table| difference(table, asked.first, asked.second)),
+        _ => String::new(),
+    }
+}
+
+/// Words about a table that the engine accepts.
+fn accepted(asked: &Asked, words: impl FnOnce(&Table) -> String) -> String {
+    let table = Table::accepted(asked.table.to_vec());
+    table.map_or_else(|_| String::new(), |table| words(&table))
+}
