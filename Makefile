@@ -1,6 +1,7 @@
-# make run      the main job: the listing of each folder of examples/, or of SITE=folder
+# make run      the main job: the listing of each folder of examples/, then what the command `order` says of the forecourt; or the listing of SITE=folder
+# make cli      the command `order`, as rust/target/release/order
 # make test     everything: the documents, layout, the trust list, every proof and must-fail edit, the Rust side, the calls from C, the examples, the
-#               listings, the comparison; then the seconds of each, and the verdict
+#               listings, the command `order`, the comparison; then the seconds of each, and the verdict
 # make docs     the Markdown files: code blocks against the files that they are taken from, links
 # make trust    the list of what a reader must believe, docs/PROOFS.md, compared with the definition files
 # make compare  the proved calls compared with the reference
@@ -20,17 +21,20 @@ LIB := lib
 STAGE := tests/gate/stage
 export GATE := rust/target/gate
 TURNS := $(CURDIR)/target/bin/turns
+ORDER := $(CURDIR)/rust/target/release/order
 
 WARNINGS := -Wall -Wextra -Wpedantic -Werror -Wshadow -Wconversion -Wstrict-prototypes -Wmissing-prototypes -Wcast-qual
 CFLAGS := -std=c11 -O1 $(WARNINGS)
 CXXFLAGS := -std=c++11 -Wall -Wextra -Wpedantic -Werror
 
-.PHONY: run test docs trust compare bench soak lib program layout rust c-test examples listings guarded proofs toolchain clean
+.PHONY: run cli test docs trust compare bench soak lib program layout rust c-test examples listings order-test guarded proofs toolchain clean
 .NOTPARALLEL:
 
-run: toolchain program
+run: toolchain program $(if $(SITE),,cli)
 ifeq ($(SITE),)
 	@for folder in examples/*/*/; do echo "$$folder"; (cd "$$folder" && "$(TURNS)") || exit 1; done
+	@for case in different same route; do line="tests/order/forecourt-$$case/command"; \
+	    cat "$$line"; PATH="$(dir $(ORDER)):$$PATH" $(SHELL) "$$line" || exit 1; done
 else
 	@cd "$(SITE)" && "$(TURNS)"
 endif
@@ -48,6 +52,7 @@ test: toolchain
 	@$(STAGE) 'C calls' $(MAKE) c-test LIB=
 	@$(STAGE) 'examples' $(MAKE) examples LIB=
 	@$(STAGE) 'listings' $(MAKE) listings
+	@$(STAGE) 'order command' $(MAKE) order-test LIB=
 	@$(STAGE) 'comparison' $(MAKE) compare LIB=
 	@$(STAGE) 'guard pages' $(MAKE) guarded LIB=
 	@tests/gate/summary
@@ -72,6 +77,9 @@ bench: lib
 
 soak: lib
 	$(CARGO) run $(LOCKED) --release --quiet --bin soak -- --minutes $(MINUTES)
+
+cli: $(LIB)
+	$(CARGO) build $(LOCKED) --release --quiet --package order-cli
 
 # The proved calls, as target/staticlib/liborder_ffi.a.
 lib:
@@ -109,6 +117,9 @@ examples: $(LIB)
 
 listings: program
 	tests/turns/run
+
+order-test: cli
+	tests/order/run
 
 proofs:
 	$(PROOFS)

@@ -1,8 +1,8 @@
 //! What was given on the command line after a sub-command's name.
 
 use crate::answer::Failure;
-use crate::command::{Choice, Command, Operand};
 use crate::files;
+use crate::operand::{Choice, Operand};
 use order_engine::StepName;
 use std::ffi::{OsStr, OsString};
 use std::path::Path;
@@ -26,8 +26,12 @@ enum Word<'a> {
 }
 
 impl<'a> Given<'a> {
-    /// Sorts the arguments of `command`.
-    pub fn of(command: &'static Command, arguments: &'a [OsString]) -> Result<Self, Failure> {
+    /// Sorts the arguments of a sub-command with these operands and options.
+    pub fn of(
+        operands: &'static [Operand],
+        options: &'static [Choice],
+        arguments: &'a [OsString],
+    ) -> Result<Self, Failure> {
         let mut given = Self {
             operands: Vec::new(),
             options: Vec::new(),
@@ -35,24 +39,24 @@ impl<'a> Given<'a> {
         let mut rest = arguments.iter().map(OsString::as_os_str);
         while let Some(argument) = rest.next() {
             if argument == TEXT {
-                given.add(command, Word::Text(after(&mut rest, TEXT, "a text")?))?;
-            } else if let Some(choice) = command.options.iter().find(|one| argument == one.name) {
+                given.add(operands, Word::Text(after(&mut rest, TEXT, "a text")?))?;
+            } else if let Some(choice) = options.iter().find(|one| argument == one.name) {
                 given.choose(choice, &mut rest)?;
             } else if argument.as_encoded_bytes().starts_with(b"-") {
                 return wrong(format!("there is no option `{}`", argument.display()));
             } else {
-                given.add(command, Word::Plain(argument))?;
+                given.add(operands, Word::Plain(argument))?;
             }
         }
-        match command.operands.get(given.operands.len()) {
+        match operands.get(given.operands.len()) {
             Some(missing) => wrong(format!("{} is missing", missing.name)),
             None => Ok(given),
         }
     }
 
-    /// Adds an operand, the next that `command` declares.
-    fn add(&mut self, command: &'static Command, word: Word<'a>) -> Result<(), Failure> {
-        match (command.operands.get(self.operands.len()), word) {
+    /// Adds an operand, the next of these.
+    fn add(&mut self, operands: &'static [Operand], word: Word<'a>) -> Result<(), Failure> {
+        match (operands.get(self.operands.len()), word) {
             (Some(operand), Word::Text(_)) if !operand.schedule => wrong(format!(
                 "{TEXT} gives a schedule, and {} is not one",
                 operand.name

@@ -2,6 +2,8 @@
 
 use crate::command::Command;
 use crate::commands;
+use crate::words::joined;
+use std::ffi::OsStr;
 use std::fmt::Write;
 
 /// Asks for help.
@@ -47,9 +49,15 @@ pub fn of(command: &Command) -> String {
     text
 }
 
-/// The usage, after wrong use.
-pub fn hint(command: &Command) -> String {
-    let usage = command.usage();
-    let name = command.name;
-    format!("usage: {usage}\n`order {name} {HELP}` says more.\n")
+/// What was wrong in the use of a sub-command, and how it is used.
+pub fn after_wrong_use(command: &Command, words: &str) -> String {
+    let (name, usage) = (command.name, command.usage());
+    format!("order {name}: {words}\nusage: {usage}\n`order {name} {HELP}` says more.\n")
+}
+
+/// That there is no such sub-command, and which there are.
+pub fn no_command(name: &OsStr) -> String {
+    let names = joined(commands::ALL.iter().map(|command| command.name));
+    let name = name.display();
+    format!("order: there is no command `{name}`; there are {names}\n`order {HELP}` says more.\n")
 }

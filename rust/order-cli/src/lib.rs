@@ -1,9 +1,8 @@
 //! The command `order`: asks the proved engine about a task table and its schedules, and answers in
 //! words.
 //!
-//! A sub-command is a module of [`commands`], and a line of its list. It takes what was
-//! [`given`](given::Given) on the command line and gives an [`Answer`](answer::Answer) or a
-//! [`Failure`](answer::Failure). What several of them say has a module here:
+//! A sub-command is a module of [`commands`], and a line of its list. It takes what was [`given`] on the
+//! command line and gives an [`Answer`] or a [`Failure`]. What several of them say has a module here:
 //!
 //! - [`words`]: a step in words, [`rule`]: why two steps are dependent, [`waits`]: what a step waits
 //!   for;
@@ -21,6 +20,7 @@ pub mod files;
 pub mod given;
 pub mod help;
 pub mod names;
+pub mod operand;
 pub mod refusals;
 pub mod rule;
 pub mod state;
@@ -41,24 +41,18 @@ pub fn answer(arguments: &[OsString]) -> Said {
         return Answer::of(help::overview()).into();
     }
     let Some(command) = commands::ALL.iter().find(|command| name == command.name) else {
-        let name = name.display();
-        let words = format!("order: there is no command `{name}`\n{}", help::overview());
-        return Said::failed(words, answer::WRONG_USE);
+        return Said::failed(help::no_command(name), answer::WRONG_USE);
     };
     if rest.iter().any(|argument| argument == help::HELP) {
         return Answer::of(help::of(command)).into();
     }
-    match Given::of(command, rest).and_then(|given| (command.run)(&given)) {
+    let given = Given::of(command.operands, command.options, rest);
+    match given.and_then(|given| (command.run)(&given)) {
         Ok(answer) => answer.into(),
         Err(Failure::Refused(words)) => Said::failed(words, answer::REFUSED),
         Err(Failure::Trouble(words)) => Said::failed(words, answer::WRONG_USE),
         Err(Failure::Use(words)) => {
-            let words = format!(
-                "order {name}: {words}\n{}",
-                help::hint(command),
-                name = command.name
-            );
-            Said::failed(words, answer::WRONG_USE)
+            Said::failed(help::after_wrong_use(command, &words), answer::WRONG_USE)
         }
     }
 }

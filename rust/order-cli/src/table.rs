@@ -1,9 +1,7 @@
 //! A table that the engine accepts.
 
-use crate::answer::Failure;
-use crate::refusals::{Asked, refused};
 use crate::words::count;
-use order_engine::{StepName, check};
+use order_engine::{Refusal, StepName, check};
 use tables::{Kind, Layout, action};
 
 /// An accepted table: its bytes, and what they hold.
@@ -16,12 +14,13 @@ pub struct Table {
 }
 
 impl Table {
-    /// Asks the engine whether it accepts the bytes.
-    pub fn accepted(bytes: Vec<u8>) -> Result<Self, Failure> {
-        check(&bytes).map_err(|refusal| refused(refusal, &Asked::of(&bytes)))?;
-        let Some(layout) = Layout::of(&bytes) else {
+    /// The table of these bytes, if the engine accepts them.
+    pub fn of(bytes: &[u8]) -> Result<Self, Refusal> {
+        check(bytes)?;
+        let Some(layout) = Layout::of(bytes) else {
             unreachable!("an accepted table comes apart");
         };
+        let bytes = bytes.to_vec();
         Ok(Self { bytes, layout })
     }
 

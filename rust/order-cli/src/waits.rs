@@ -1,9 +1,10 @@
 //! What a step that is not ready waits for.
 
 use crate::state::State;
-use crate::words::{joined, listed, step};
+use crate::words::{listed, step};
 use order_engine::StepName;
 use order_engine::report::Stage;
+use std::collections::HashSet;
 use tables::Kind;
 use tables::action::{self, list};
 
@@ -12,9 +13,17 @@ pub fn reason(state: &State, name: StepName) -> String {
     let Some(action) = state.table.layout.action(name.actor, name.action) else {
         return String::new();
     };
-    match action::kind(action) {
-        Some(Kind::WaitAny) => joined(listed(name.actor, action).map(|one| unmet(state, one))),
-        Some(Kind::MutexWait) => joined(list(action).iter().map(|&one| unowned(state, name, one))),
+    let mut reasons = match action::kind(action) {
+        Some(Kind::WaitAny) => {
+            let steps = listed(name.actor, action);
+            steps.map(|step| unmet(state, step)).collect()
+        }
+        Some(Kind::MutexWait) => {
+            let mutexes = list(action).iter();
+            mutexes
+                .map(|&mutex| unowned(state, name.actor, mutex))
+                .collect()
+        }
         Some(
             Kind::Set
             | Kind::Add
@@ -26,8 +35,11 @@ pub fn reason(state: &State, name: StepName) -> String {
             | Kind::Unlock
             | Kind::MutexTest,
         )
-        | None => String::new(),
-    }
+        | None => Vec::new(),
+    };
+    let mut said = HashSet::new();
+    reasons.retain(|reason| said.insert(reason.clone()));
+    reasons.join(", ")
 }
 
 /// A listed communication that is not done.
@@ -49,9 +61,8 @@ fn partner(state: &State, name: StepName) -> &'static str {
     met.name()
 }
 
-/// A listed mutex that the actor of `name` does not own.
-fn unowned(state: &State, name: StepName, number: u8) -> String {
-    let actor = name.actor;
+/// A listed mutex that the actor does not own.
+fn unowned(state: &State, actor: u8, number: u8) -> String {
     let mutex = state.report.mutexes().nth(number.into());
     let queue: Vec<u8> = mutex.map_or_else(Vec::new, |mutex| mutex.actors().collect());
     match queue.first() {

@@ -1,12 +1,12 @@
 //! `order build`: a table from a text.
 
 use crate::answer::{Answer, Failure};
-use crate::command::{Command, Example, Operand};
+use crate::command::{Command, Example};
 use crate::files;
 use crate::given::Given;
-use crate::refusals::place;
+use crate::operand::Operand;
+use crate::refusals::{Asked, place, told};
 use crate::table::Table;
-use order_engine::check;
 use std::path::Path;
 use tables::text::{Built, Mistake, Place, build};
 
@@ -70,14 +70,10 @@ fn at(path: &Path, mistake: &Mistake) -> Failure {
 /// The table, if the engine accepts it; a refusal with the line of the text that it points at.
 fn accepted(path: &Path, text: &str, built: &Built) -> Result<Table, Failure> {
     let bytes = built.layout.bytes();
-    let refused = check(&bytes).err();
-    Table::accepted(bytes).map_err(|failure| match failure {
-        Failure::Refused(words) => {
-            let place = refused.and_then(|refusal| place(refusal, built));
-            let line = place.map_or_else(String::new, |place| pointed(path, text, place));
-            Failure::Refused(words + &line)
-        }
-        other => other,
+    Table::of(&bytes).map_err(|refusal| {
+        let place = place(refusal, built);
+        let line = place.map_or_else(String::new, |place| pointed(path, text, place));
+        Failure::Refused(told(refusal, &Asked::of(&bytes)) + &line)
     })
 }
 

@@ -1,9 +1,10 @@
 //! `order check`: whether a file is a task table, and what it has.
 
 use crate::answer::{Answer, Failure};
-use crate::command::{Command, Example, TABLE};
+use crate::command::{Command, Example};
 use crate::given::Given;
-use crate::table::Table;
+use crate::operand::TABLE;
+use crate::refusals::accepted;
 
 /// The sub-command.
 pub static COMMAND: Command = Command {
@@ -25,6 +26,6 @@ actor 2: 2 actions
 };
 
 fn run(given: &Given) -> Result<Answer, Failure> {
-    let table = Table::accepted(given.file(&TABLE)?)?;
+    let table = accepted(&given.file(&TABLE)?)?;
     Ok(Answer::of(format!("accepted: {}", table.summary())))
 }

@@ -1,11 +1,11 @@
 //! `order pair`: whether two steps may trade places.
 
 use crate::answer::{Answer, Failure};
-use crate::command::{Choice, Command, Example, Operand, TABLE, quiet};
+use crate::command::{Command, Example};
 use crate::given::Given;
-use crate::refusals::{Asked, refused};
+use crate::operand::{Choice, Operand, TABLE, quiet};
+use crate::refusals::{Asked, accepted, refused};
 use crate::rule::rule;
-use crate::table::Table;
 use crate::words::step;
 use order_engine::{PairVerdict, pair};
 
@@ -44,7 +44,7 @@ case 1: both Send on mailbox 0
 
 fn run(given: &Given) -> Result<Answer, Failure> {
     let steps = [given.step(&ONE)?, given.step(&OTHER)?];
-    let table = Table::accepted(given.file(&TABLE)?)?;
+    let table = accepted(&given.file(&TABLE)?)?;
     let [one, other] = steps;
     let verdict = pair(&table.bytes, one, other)
         .map_err(|refusal| refused(refusal, &Asked::of_steps(&table.bytes, &steps)))?;

@@ -1,11 +1,11 @@
 //! `order ready`: who can go on after a schedule.
 
 use crate::answer::{Answer, Failure};
-use crate::command::{Command, Example, SCHEDULE, TABLE};
+use crate::command::{Command, Example};
 use crate::given::Given;
-use crate::refusals::{Asked, refused};
+use crate::operand::{SCHEDULE, TABLE};
+use crate::refusals::{Asked, accepted, refused};
 use crate::state::{State, Status};
-use crate::table::Table;
 use crate::waits::reason;
 use crate::words::step;
 use order_engine::REPORT_ROOM;
@@ -34,7 +34,7 @@ actor 2 waits: 2.1 WaitAny for 2.0; 2.0 Receive from mailbox 0 has met no Send
 
 fn run(given: &Given) -> Result<Answer, Failure> {
     let (table, schedule) = (given.file(&TABLE)?, given.schedule(&SCHEDULE)?);
-    let table = Table::accepted(table)?;
+    let table = accepted(&table)?;
     let mut buffer = [0; REPORT_ROOM];
     let state = State::after(&table, &schedule, &mut buffer)
         .map_err(|refusal| refused(refusal, &Asked::of_one(&table.bytes, &schedule)))?;

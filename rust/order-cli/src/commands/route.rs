@@ -1,10 +1,11 @@
 //! `order route`: by which exchanges one schedule becomes another.
 
 use crate::answer::{Answer, Failure};
-use crate::command::{Command, Example, FIRST, SECOND, TABLE};
+use crate::command::{Command, Example};
 use crate::given::Given;
 use crate::names::names;
-use crate::refusals::{Asked, refused};
+use crate::operand::{FIRST, SECOND, TABLE};
+use crate::refusals::{Asked, accepted, refused};
 use crate::table::Table;
 use crate::words::{count, spaced, step};
 use order_engine::{route, route_room, same};
@@ -37,7 +38,7 @@ then the schedule is: 2 1 0 0 1 2
 fn run(given: &Given) -> Result<Answer, Failure> {
     let table = given.file(&TABLE)?;
     let (first, second) = (given.schedule(&FIRST)?, given.schedule(&SECOND)?);
-    let table = Table::accepted(table)?;
+    let table = accepted(&table)?;
     let mut buffer = vec![0; room(&table, &first, &second)];
     let route = route(&table.bytes, &first, &second, &mut buffer)
         .map_err(|refusal| refused(refusal, &Asked::of_two(&table.bytes, &first, &second)))?;

@@ -1,12 +1,12 @@
 //! `order run`: what a schedule leads to.
 
 use crate::answer::{Answer, Failure};
-use crate::command::{Choice, Command, Example, SCHEDULE, TABLE};
+use crate::command::{Command, Example};
 use crate::files;
 use crate::given::Given;
-use crate::refusals::{Asked, refused};
+use crate::operand::{Choice, SCHEDULE, TABLE};
+use crate::refusals::{Asked, accepted, refused};
 use crate::state::State;
-use crate::table::Table;
 use crate::words::count;
 use order_engine::REPORT_ROOM;
 
@@ -44,7 +44,7 @@ mailbox 0: 0.1 Send with 145, then 1.1 Send with 139
 
 fn run(given: &Given) -> Result<Answer, Failure> {
     let (table, schedule) = (given.file(&TABLE)?, given.schedule(&SCHEDULE)?);
-    let table = Table::accepted(table)?;
+    let table = accepted(&table)?;
     let mut buffer = [0; REPORT_ROOM];
     let state = State::after(&table, &schedule, &mut buffer)
         .map_err(|refusal| refused(refusal, &Asked::of_one(&table.bytes, &schedule)))?;

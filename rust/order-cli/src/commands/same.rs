@@ -1,11 +1,11 @@
 //! `order same`: whether two schedules are one and the same run.
 
 use crate::answer::{Answer, Failure};
-use crate::command::{Choice, Command, Example, FIRST, SECOND, TABLE, quiet};
+use crate::command::{Command, Example};
 use crate::difference::difference;
 use crate::given::Given;
-use crate::refusals::{Asked, refused};
-use crate::table::Table;
+use crate::operand::{Choice, FIRST, SECOND, TABLE, quiet};
+use crate::refusals::{Asked, accepted, refused};
 use order_engine::{SameVerdict, same};
 
 const QUIET: Choice = quiet("print nothing; exit with 0 for same, 3 for different");
@@ -37,7 +37,7 @@ They are dependent, case 1: both Send on mailbox 0.
 fn run(given: &Given) -> Result<Answer, Failure> {
     let table = given.file(&TABLE)?;
     let (first, second) = (given.schedule(&FIRST)?, given.schedule(&SECOND)?);
-    let table = Table::accepted(table)?;
+    let table = accepted(&table)?;
     let answer = same(&table.bytes, &first, &second)
         .map_err(|refusal| refused(refusal, &Asked::of_two(&table.bytes, &first, &second)))?;
     if given.has(&QUIET) {

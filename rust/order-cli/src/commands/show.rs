@@ -1,9 +1,10 @@
 //! `order show`: a table in text.
 
 use crate::answer::{Answer, Failure};
-use crate::command::{Command, Example, TABLE};
+use crate::command::{Command, Example};
 use crate::given::Given;
-use crate::table::Table;
+use crate::operand::TABLE;
+use crate::refusals::accepted;
 use tables::text;
 
 /// The sub-command.
@@ -39,6 +40,6 @@ actor 2
 };
 
 fn run(given: &Given) -> Result<Answer, Failure> {
-    let table = Table::accepted(given.file(&TABLE)?)?;
+    let table = accepted(&given.file(&TABLE)?)?;
     Ok(Answer::of(text::show(&table.layout)))
 }

@@ -59,9 +59,19 @@ impl<'a> Asked<'a> {
     }
 }
 
-/// A refusal in words, with what it points at.
+/// The table, if the engine accepts its bytes; otherwise the refusal in words.
+pub fn accepted(bytes: &[u8]) -> Result<Table, Failure> {
+    Table::of(bytes).map_err(|refusal| refused(refusal, &Asked::of(bytes)))
+}
+
+/// A refusal as the answer to what was asked.
 pub fn refused(refusal: Refusal, asked: &Asked) -> Failure {
-    Failure::Refused(format!("{refusal}\n{}", pointed(refusal, asked)))
+    Failure::Refused(told(refusal, asked))
+}
+
+/// A refusal in words, with what it points at.
+pub fn told(refusal: Refusal, asked: &Asked) -> String {
+    format!("{refusal}\n{}", pointed(refusal, asked))
 }
 
 /// What a refusal points at. A reason that has no words here is said by its sentence alone.
@@ -78,19 +88,19 @@ fn pointed(refusal: Refusal, asked: &Asked) -> String {
             layout.map_or_else(String::new, |layout| action::words(refusal, &layout))
         }
         Reason::NoActor | Reason::Finished | Reason::NotReady => {
-            accepted(asked, |table| entry::words(table, asked.first, index))
+            of_table(asked, |table| entry::words(table, asked.first, index))
         }
         Reason::SecondNoActor | Reason::SecondFinished | Reason::SecondNotReady => {
-            accepted(asked, |table| entry::words(table, asked.second, index))
+            of_table(asked, |table| entry::words(table, asked.second, index))
         }
-        Reason::NoStep => accepted(asked, |table| name::words(&table.layout, asked.steps)),
-        Reason::Different => accepted(asked, |table| difference(table, asked.first, asked.second)),
+        Reason::NoStep => of_table(asked, |table| name::words(&table.layout, asked.steps)),
+        Reason::Different => of_table(asked, |table| difference(table, asked.first, asked.second)),
         _ => String::new(),
     }
 }
 
-/// Words about a table that the engine accepts.
-fn accepted(asked: &Asked, words: impl FnOnce(&Table) -> String) -> String {
-    let table = Table::accepted(asked.table.to_vec());
-    table.map_or_else(|_| String::new(), |table| words(&table))
+/// Words about an accepted table.
+fn of_table(asked: &Asked, words: impl FnOnce(&Table) -> String) -> String {
+    let table = Table::of(asked.table).ok();
+    table.as_ref().map_or_else(String::new, words)
 }

@@ -6,7 +6,9 @@ use tables::Layout;
 
 /// A line for each step that is not in the table.
 pub(super) fn words(layout: &Layout, steps: &[StepName]) -> String {
-    let absent = steps.iter().filter_map(|&name| {
+    let mut steps = steps.to_vec();
+    steps.dedup();
+    let absent = steps.into_iter().filter_map(|name| {
         let there = match layout.scripts.get(usize::from(name.actor)) {
             None => {
                 let actors = count(layout.scripts.len(), "actor", "actors");

@@ -1,0 +1,146 @@
+//! Over many tables: the text form gives the same bytes, what the command says of a pair of steps is
+//! what the engine's verdict is, and different schedules are told apart.
+
+mod generate;
+
+use generate::{Random, table};
+use order_cli::difference::difference;
+use order_cli::names::names;
+use order_cli::rule::rule;
+use order_cli::table::Table;
+use order_engine::{PairVerdict, StepName, check, pair, ready, same};
+use std::collections::HashSet;
+use tables::action::{kind, list};
+use tables::layout::MOST_ACTIONS;
+use tables::text::{build, show};
+use tables::{Kind, Layout, Rest};
+
+/// What a table has that the tests want to have met.
+fn traits(layout: &Layout) -> HashSet<String> {
+    let mut met = HashSet::from([
+        format!("{} actors", layout.scripts.len()),
+        format!("{} mailboxes", layout.mailboxes),
+        format!("{} mutexes", layout.mutexes),
+    ]);
+    for script in &layout.scripts {
+        met.insert(format!("{} actions", script.len()));
+        for action in script {
+            let name = kind(action).expect("a kind").name();
+            met.insert(format!("{name} {}", list(action).len()));
+        }
+    }
+    met
+}
+
+/// All traits that there are.
+fn wanted() -> HashSet<String> {
+    let actors = (1..=8).map(|n| format!("{n} actors"));
+    let mailboxes = (0..=8).map(|n| format!("{n} mailboxes"));
+    let mutexes = (0..=8).map(|n| format!("{n} mutexes"));
+    let actions = (0..=MOST_ACTIONS).map(|n| format!("{n} actions"));
+    let kinds = Kind::ALL.into_iter().flat_map(|kind| {
+        let lengths = match kind.rest() {
+            Rest::Nothing | Rest::Value | Rest::Cell => 0..=0,
+            Rest::Communications | Rest::Mutexes => 1..=4,
+        };
+        lengths.map(move |length| format!("{} {length}", kind.name()))
+    });
+    let counts = actors.chain(mailboxes).chain(mutexes).chain(actions);
+    counts.chain(kinds).collect()
+}
+
+#[test]
+fn shown_and_built_again() {
+    let mut random = Random::new(1);
+    let mut met = HashSet::new();
+    for _ in 0..4_000 {
+        let layout = table(&mut random);
+        let bytes = layout.bytes();
+        assert_eq!(check(&bytes), Ok(()), "{layout:?}");
+        let text = show(&layout);
+        let built = build(&text).unwrap_or_else(|mistake| panic!("{mistake}\n{text}"));
+        assert_eq!(built.layout.bytes(), bytes, "{text}");
+        met.extend(traits(&layout));
+    }
+    let missing: Vec<String> = wanted().difference(&met).cloned().collect();
+    assert!(missing.is_empty(), "not met: {missing:?}");
+}
+
+/// All steps of a table.
+fn steps(layout: &Layout) -> Vec<StepName> {
+    let scripts = layout.scripts.iter().zip(0..);
+    let steps = scripts.flat_map(|(script, actor)| {
+        let numbered = script.iter().zip(0..);
+        numbered.map(move |(_, action)| StepName::new(actor, action))
+    });
+    steps.collect()
+}
+
+#[test]
+fn a_rule_exactly_where_the_engine_says_dependent() {
+    let mut random = Random::new(2);
+    let mut met = HashSet::new();
+    for _ in 0..200 {
+        let layout = table(&mut random);
+        let (bytes, steps) = (layout.bytes(), steps(&layout));
+        for _ in 0..200 {
+            let (Some(one), Some(other)) = (random.pick(&steps), random.pick(&steps)) else {
+                break;
+            };
+            let said = rule(&layout, one, other);
+            let verdict = pair(&bytes, one, other).expect("steps of the table");
+            let dependent = verdict == PairVerdict::Dependent;
+            assert_eq!(said.is_some(), dependent, "{one} {other} of {layout:?}");
+            met.insert(said.map_or_else(String::new, |words| words.chars().take(6).collect()));
+        }
+    }
+    let wanted = ["", "two st", "case 1", "case 2", "case 3", "case 4"];
+    assert_eq!(met, HashSet::from(wanted.map(str::to_owned)));
+}
+
+/// A schedule of at most `most` entries, each of an actor that is ready.
+fn walk(random: &mut Random, table: &[u8], most: usize) -> Vec<u8> {
+    let mut schedule = Vec::new();
+    while schedule.len() < most {
+        let ready = ready(table, &schedule).expect("each was ready");
+        let Some(actor) = random.pick(&ready.actors().collect::<Vec<_>>()) else {
+            break;
+        };
+        schedule.push(actor);
+    }
+    schedule
+}
+
+#[test]
+fn different_schedules_are_told_apart() {
+    let mut random = Random::new(3);
+    let mut met = [0; 3];
+    for _ in 0..2_000 {
+        let table = Table::of(&table(&mut random).bytes()).expect("an accepted table");
+        let [first, second] = [20, 20].map(|most| walk(&mut random, &table.bytes, most));
+        let told = difference(&table, &first, &second);
+        let [one, other] = [&first, &second].map(|schedule| {
+            let names = names(&table.bytes, schedule);
+            assert!(
+                names
+                    .iter()
+                    .map(|name| name.actor)
+                    .eq(schedule.iter().copied())
+            );
+            HashSet::<StepName>::from_iter(names)
+        });
+        let is_same = same(&table.bytes, &first, &second).expect("both are accepted");
+        if is_same.is_same() {
+            assert_eq!(told, "");
+            met[0] += 1;
+        } else if one == other {
+            assert!(told.contains("run in opposite orders"), "{told}");
+            met[1] += 1;
+        } else {
+            assert!(told.contains("Only the "), "{told}");
+            met[2] += 1;
+        }
+        assert_eq!(told.contains("The first has"), first.len() != second.len());
+    }
+    assert!(met.iter().all(|&times| times > 100), "{met:?}");
+}
