@@ -112,14 +112,10 @@ fn numbered(line: &mut Line, own: usize) -> Result<(), Mistake> {
 
 /// Passes a number that has to be `own`; `what` says what it counts.
 fn in_turn(line: &mut Line, own: usize, what: &str) -> Result<(), Mistake> {
-    let place = line.place();
-    let word = line.peek().unwrap_or_default();
+    let other = line.expected(&format!("{what}'s number in turn, {own}"));
     let number = line.number(&format!("{what}'s number"), u32::MAX)?;
     match usize::try_from(number) {
         Ok(number) if number == own => Ok(()),
-        _ => Err(Mistake::new(
-            place,
-            format!("expected {what}'s number in turn, {own}, found `{word}`"),
-        )),
+        _ => Err(other),
     }
 }

@@ -6,6 +6,9 @@ use super::place::{Mistake, Place};
 /// The signs that are words of their own, wherever they stand.
 const SIGNS: [char; 4] = [':', '[', ']', ','];
 
+/// A word of more characters is not shown whole.
+const LONG: usize = 32;
+
 /// What of a line is still to be read.
 pub(super) struct Line<'a> {
     number: usize,
@@ -79,8 +82,8 @@ impl<'a> Line<'a> {
             return Err(self.expected(what));
         };
         let Some(fits) = u32::try_from(found).ok().filter(|&fits| fits <= most) else {
-            let word = self.peek().unwrap_or_default();
-            let words = format!("`{word}` is too large for {what}: at most {most} fits");
+            let word = quoted(self.peek().unwrap_or_default());
+            let words = format!("{word} is too large for {what}: at most {most} fits");
             return Err(self.mistake(words));
         };
         self.words.pop();
@@ -104,7 +107,7 @@ impl<'a> Line<'a> {
     /// The mistake that `what` was expected where something else stands.
     pub(super) fn expected(&self, what: &str) -> Mistake {
         let found = match self.peek() {
-            Some(word) => format!("found `{word}`"),
+            Some(word) => format!("found {}", quoted(word)),
             None => "the line ends here".to_owned(),
         };
         self.mistake(format!("expected {what}, {found}"))
@@ -121,9 +124,30 @@ fn ends_word(first: char, next: char) -> bool {
     first.is_whitespace() != next.is_whitespace() || SIGNS.contains(&next)
 }
 
+/// The word in quotes: its first characters, if it is long, and none that does not print.
+fn quoted(word: &str) -> String {
+    let mut shown: String = word
+        .chars()
+        .take(LONG)
+        .flat_map(char::escape_debug)
+        .collect();
+    if word.chars().nth(LONG).is_some() {
+        shown += "..";
+    }
+    format!("`{shown}`")
+}
+
 #[cfg(test)]
 mod tests {
-    use super::Line;
+    use super::{Line, quoted};
+
+    #[test]
+    fn words_in_quotes() {
+        assert_eq!(quoted("s\u{e9}nd"), "`s\u{e9}nd`");
+        assert_eq!(quoted("\0\u{1b}[m"), "`\\0\\u{1b}[m`");
+        assert_eq!(quoted(&"9".repeat(32)), format!("`{}`", "9".repeat(32)));
+        assert_eq!(quoted(&"9".repeat(33)), format!("`{}..`", "9".repeat(32)));
+    }
 
     #[test]
     fn words_and_columns() {
