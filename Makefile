@@ -21,6 +21,7 @@ LIB := lib
 STAGE := tests/gate/stage
 export GATE := rust/target/gate
 TURNS := $(CURDIR)/target/bin/turns
+ARCHIVE := target/staticlib/liborder_ffi.a
 ORDER := $(CURDIR)/rust/target/release/order
 
 WARNINGS := -Wall -Wextra -Wpedantic -Werror -Wshadow -Wconversion -Wstrict-prototypes -Wmissing-prototypes -Wcast-qual
@@ -81,11 +82,12 @@ soak: lib
 cli: $(LIB)
 	$(CARGO) build $(LOCKED) --release --quiet --package order-cli
 
-# The proved calls, as target/staticlib/liborder_ffi.a.
+# The proved calls, as target/staticlib/liborder_ffi.a, and the listing program, as target/bin/turns; what the prover says is shown where it refuses.
 lib:
-	rt staticlib order_ffi
+	@mkdir -p target
+	@[ -f $(ARCHIVE) ] || echo 'proving and building the library: some minutes the first time' >&2
+	@rt staticlib order_ffi > target/lib.log 2>&1 || { cat target/lib.log; exit 1; }
 
-# The listing program, as target/bin/turns; what the prover says is shown where it refuses.
 program:
 	@mkdir -p target
 	@[ -x "$(TURNS)" ] || echo 'proving and building the listing program: some minutes the first time' >&2
@@ -103,7 +105,7 @@ rust: $(LIB)
 # The header is read as C++ too, where there is a compiler for it.
 c-test: $(LIB)
 	mkdir -p target/c-test
-	$(CC) $(CFLAGS) -Iinclude tests/c/*.c target/staticlib/liborder_ffi.a -o target/c-test/calls
+	$(CC) $(CFLAGS) -Iinclude tests/c/*.c $(ARCHIVE) -o target/c-test/calls
 	target/c-test/calls tests/turns/document/site.tab
 	@if command -v $(CXX) > /dev/null; then \
 	    $(CXX) $(CXXFLAGS) -fsyntax-only -Iinclude tests/c/header.cpp && echo 'order.h as C++: accepted'; \
