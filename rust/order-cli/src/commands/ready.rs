@@ -4,7 +4,7 @@ use crate::answer::{Answer, Failure};
 use crate::command::{Command, Example};
 use crate::given::Given;
 use crate::operand::{SCHEDULE, TABLE};
-use crate::refusals::{Asked, accepted, refused};
+use crate::refusals::{accepted, reached};
 use crate::state::{State, Status};
 use crate::waits::reason;
 use crate::words::step;
@@ -36,8 +36,7 @@ fn run(given: &Given) -> Result<Answer, Failure> {
     let (table, schedule) = (given.file(&TABLE)?, given.schedule(&SCHEDULE)?);
     let table = accepted(&table)?;
     let mut buffer = [0; REPORT_ROOM];
-    let state = State::after(&table, &schedule, &mut buffer)
-        .map_err(|refusal| refused(refusal, &Asked::of_one(&table.bytes, &schedule)))?;
+    let state = reached(&table, &schedule, &mut buffer)?;
     let mut text = format!("{}\n", state.ending());
     text.extend(state.report.actors().map(|actor| stands(&state, &actor)));
     Ok(Answer::of(text))

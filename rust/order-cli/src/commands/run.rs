@@ -5,8 +5,7 @@ use crate::command::{Command, Example};
 use crate::files;
 use crate::given::Given;
 use crate::operand::{Choice, SCHEDULE, TABLE};
-use crate::refusals::{Asked, accepted, refused};
-use crate::state::State;
+use crate::refusals::{accepted, reached};
 use crate::words::count;
 use order_engine::REPORT_ROOM;
 
@@ -46,8 +45,7 @@ fn run(given: &Given) -> Result<Answer, Failure> {
     let (table, schedule) = (given.file(&TABLE)?, given.schedule(&SCHEDULE)?);
     let table = accepted(&table)?;
     let mut buffer = [0; REPORT_ROOM];
-    let state = State::after(&table, &schedule, &mut buffer)
-        .map_err(|refusal| refused(refusal, &Asked::of_one(&table.bytes, &schedule)))?;
+    let state = reached(&table, &schedule, &mut buffer)?;
     let mut text = format!("{}\n", state.ending());
     text.extend(state.report.actors().map(|actor| state.actor(&actor)));
     text.extend(

@@ -10,6 +10,7 @@ pub use text::place;
 
 use crate::answer::Failure;
 use crate::difference::difference;
+use crate::state::State;
 use crate::table::Table;
 use order_engine::{Reason, Refusal, StepName};
 use tables::Layout;
@@ -62,6 +63,16 @@ impl<'a> Asked<'a> {
 /// The table, if the engine accepts its bytes; otherwise the refusal in words.
 pub fn accepted(bytes: &[u8]) -> Result<Table, Failure> {
     Table::of(bytes).map_err(|refusal| refused(refusal, &Asked::of(bytes)))
+}
+
+/// The state that a schedule leads to, if the engine accepts it; otherwise the refusal in words.
+pub fn reached<'a>(
+    table: &'a Table,
+    schedule: &[u8],
+    buffer: &'a mut [u8],
+) -> Result<State<'a>, Failure> {
+    State::after(table, schedule, buffer)
+        .map_err(|refusal| refused(refusal, &Asked::of_one(&table.bytes, schedule)))
 }
 
 /// A refusal as the answer to what was asked.
