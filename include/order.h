@@ -2,8 +2,9 @@
  *
  * A slice is passed as a pointer and a number of elements. A call reads and writes no byte outside
  * the slices that it is lent, and writes only the report and the route; it keeps no pointer and has
- * no state. Where the number is 0, the pointer may be null. Otherwise it points at so many elements
- * and is aligned for their type. A slice that is written shares no byte with another.
+ * no state, so that calls may run in several threads at once. Where the number is 0, the pointer may
+ * be null. Otherwise it points at so many elements and is aligned for their type. A slice that is
+ * written shares no byte with another.
  *
  * In every answer `refusal` is 0 where the call accepted, otherwise the number of the refusal, and
  * `position` is its position; the other fields are then 0. A call that refuses changes nothing that
@@ -56,6 +57,10 @@ enum OrderRefusal {
     ORDER_REFUSED_ROUTE_ROOM = 18, /* its buffer has under ORDER_ROUTE_ROOM(m) entries, m the schedules' length */
     ORDER_REFUSED_DIFFERENT = 19   /* the schedules are different: there is none */
 };
+
+/* The longest table has so many bytes, and the longest accepted schedule so many entries. */
+#define ORDER_TABLE_MOST 2084
+#define ORDER_SCHEDULE_MOST 256
 
 /* Whether a file is a task table. */
 typedef struct {

@@ -7,7 +7,7 @@ int main(void)
 {
     static const uint8_t first[6] = {0, 0, 1, 1, 2, 2};
     static const uint8_t others[2][6] = {{2, 1, 0, 0, 1, 2}, {1, 1, 0, 0, 2, 2}};
-    uint8_t table[2085]; /* the longest table has 2,084 bytes; a longer file is refused */
+    uint8_t table[ORDER_TABLE_MOST + 1]; /* a longer file is refused */
     size_t length = fread(table, 1, sizeof table, stdin);
 
     for (int i = 0; i < 2; i++) {

@@ -11,7 +11,7 @@ fn main() {
     println!("cargo::rerun-if-changed={}", archive.display());
     if !archive.is_file() {
         println!(
-            "cargo::error=there is no {}: run `rt staticlib order_ffi` in the repository's root, \
+            "cargo::error=there is no {}: run `make lib` in the repository's root, \
              or set ORDER_LIB_DIR to the folder that has liborder_ffi.a",
             archive.display()
         );

@@ -4,7 +4,8 @@
 //! cargo run --example orders
 //! ```
 
-use order_engine::{REPORT_ROOM, Refusal, StepName, pair, ready, route, route_room, run, same};
+use order_engine::{REPORT_ROOM, Reason, Refusal, StepName};
+use order_engine::{pair, ready, route, route_room, run, same};
 use tables::TABLE_A;
 
 fn main() -> Result<(), Refusal> {
@@ -17,12 +18,15 @@ fn main() -> Result<(), Refusal> {
         println!("{schedule:?}: {ending:?}, actor 1 received {received:?}");
     }
 
-    // Who may go on after actor 1's first step.
+    // Who may go on after actor 1's first step, and what waits in the mailbox then.
     let open: Vec<u8> = ready(&TABLE_A, &[1])?.actors().collect();
-    println!("after [1] ready: {open:?}");
+    let mut buffer = [0; REPORT_ROOM];
+    let report = run(&TABLE_A, &[1], &mut buffer)?;
+    let waiting: Vec<StepName> = report.mailboxes().flat_map(|m| m.steps()).collect();
+    println!("after [1] ready: {open:?}, in the mailbox: {waiting:?}");
 
     // The Send against the Receive, and against the Wait for it.
-    let [send, receive, wait] = [(0, 1), (1, 0), (1, 1)].map(|(a, k)| StepName::new(a, k));
+    let [send, receive, wait] = [(0, 1), (1, 0), (1, 1)].map(StepName::from);
     println!("{send} and {receive}: {:?}", pair(&TABLE_A, send, receive)?);
     println!("{send} and {wait}: {:?}", pair(&TABLE_A, send, wait)?);
 
@@ -32,9 +36,13 @@ fn main() -> Result<(), Refusal> {
         println!("one run: exchanges at {route:?}");
     }
 
-    // An order that cannot happen.
-    if let Err(refusal) = ready(&TABLE_A, &[1, 1]) {
-        println!("{refusal}");
+    // Orders that cannot happen.
+    for schedule in [&[1, 1][..], &[2]] {
+        match ready(&TABLE_A, schedule).map_err(|refusal| refusal.reason()) {
+            Ok(_) => println!("{schedule:?} is accepted"),
+            Err(Reason::NotReady) => println!("{schedule:?} comes too early"),
+            Err(other) => println!("{schedule:?}: {}", other.sentence()),
+        }
     }
     Ok(())
 }

@@ -38,7 +38,7 @@ pub use fields::Fields;
 pub use pair::{PairVerdict, pair};
 pub use ready::{Ending, Ready, ready};
 pub use refusal::{Reason, Refusal};
-pub use report::Report;
+pub use report::{Actor, Communication, Mailbox, Mutex, Report, Stage};
 pub use route::{route, route_room};
 pub use run::{REPORT_ROOM, run};
 pub use same::{Same, SameVerdict, same};

@@ -24,6 +24,13 @@ pub enum PairVerdict {
     Dependent,
 }
 
+impl PairVerdict {
+    /// Whether the order of the two steps matters.
+    pub fn is_dependent(&self) -> bool {
+        *self == Self::Dependent
+    }
+}
+
 /// Whether two steps are dependent, judged from the table alone.
 ///
 /// Refusals: 1 to 9, then 17.

@@ -45,7 +45,7 @@ pub struct Actor {
 pub enum Stage {
     /// Its step has not run, or it is neither a Send nor a Receive.
     Unposted,
-    /// It waits in its mailbox.
+    /// It waits in its mailbox. Whether it is a Send or a Receive the table tells.
     Pending {
         /// What a Send carries; 0 for a Receive.
         value: u32,

@@ -18,6 +18,13 @@ impl StepName {
     }
 }
 
+/// Actor and action.
+impl From<(u8, u8)> for StepName {
+    fn from((actor, action): (u8, u8)) -> Self {
+        Self { actor, action }
+    }
+}
+
 impl fmt::Display for StepName {
     fn fmt(&self, f: &mut fmt::Formatter<'_>) -> fmt::Result {
         write!(f, "{}.{}", self.actor, self.action)

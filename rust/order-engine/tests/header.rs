@@ -2,6 +2,7 @@
 
 use order_engine::{REPORT_ROOM, Reason};
 use std::collections::BTreeMap;
+use tables::layout::{LONGEST, MOST, MOST_ACTIONS};
 
 const HEADER: &str = include_str!("../../../include/order.h");
 
@@ -49,6 +50,8 @@ fn the_rest() {
     let wanted = [
         ("ORDER_ACCEPTED", 0),
         ("ORDER_REPORT_ROOM", REPORT_ROOM as u32),
+        ("ORDER_TABLE_MOST", LONGEST as u32),
+        ("ORDER_SCHEDULE_MOST", u32::from(MOST) * MOST_ACTIONS as u32),
         ("ORDER_FINISHED", 0),
         ("ORDER_STUCK", 1),
         ("ORDER_GOING", 2),
