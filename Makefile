@@ -114,7 +114,7 @@ c-test: $(LIB)
 	fi
 
 # The programs that README.md and docs/FORMAT.md show.
-examples: $(LIB)
+examples: cli
 	tests/examples/run
 
 listings: program

@@ -22,8 +22,12 @@ fn main() -> Result<(), Refusal> {
     let open: Vec<u8> = ready(&TABLE_A, &[1])?.actors().collect();
     let mut buffer = [0; REPORT_ROOM];
     let report = run(&TABLE_A, &[1], &mut buffer)?;
-    let waiting: Vec<StepName> = report.mailboxes().flat_map(|m| m.steps()).collect();
-    println!("after [1] ready: {open:?}, in the mailbox: {waiting:?}");
+    println!("after [1] ready: {open:?}");
+    for mailbox in report.mailboxes() {
+        for step in mailbox.steps() {
+            println!("mailbox {}: {step} waits", mailbox.number());
+        }
+    }
 
     // The Send against the Receive, and against the Wait for it.
     let [send, receive, wait] = [(0, 1), (1, 0), (1, 1)].map(StepName::from);
