@@ -3,12 +3,21 @@
 use crate::names::names;
 use crate::rule::rule;
 use crate::table::Table;
-use crate::words::{count, step};
+use crate::words::{count, joined, step};
 use order_engine::{PairVerdict, StepName, pair};
 use std::fmt::Write;
 
+/// Which of the dependent pairs that run in opposite orders are named.
+#[derive(Clone, Copy, PartialEq, Eq, Debug)]
+pub enum Pairs {
+    /// The first; of the others, how many they are.
+    First,
+    /// All of them.
+    All,
+}
+
 /// How the two differ, in words. Both are accepted.
-pub fn difference(table: &Table, first: &[u8], second: &[u8]) -> String {
+pub fn difference(table: &Table, first: &[u8], second: &[u8], pairs: Pairs) -> String {
     let [one, other] = [first, second].map(|schedule| names(&table.bytes, schedule));
     let mut text = String::new();
     if one.len() != other.len() {
@@ -17,48 +26,93 @@ pub fn difference(table: &Table, first: &[u8], second: &[u8]) -> String {
     }
     text += &alone(table, "first", &one, &other);
     text += &alone(table, "second", &other, &one);
-    text + &opposed(table, &one, &other)
+    text + &opposed(table, &one, &other, pairs)
 }
 
-/// The steps that only one of the two runs.
+/// The steps that only one of the two runs, a line for each actor.
 fn alone(table: &Table, which: &str, own: &[StepName], other: &[StepName]) -> String {
+    let mut alone: Vec<StepName> = own.to_vec();
+    alone.retain(|name| !other.contains(name));
+    alone.sort();
     let mut text = String::new();
-    for &name in own.iter().filter(|name| !other.contains(name)) {
-        let words = step(&table.layout, name);
-        let _ = writeln!(text, "Only the {which} runs {words}.");
+    for steps in alone.chunk_by(|one, next| one.actor == next.actor) {
+        let steps = match steps {
+            [name] => step(&table.layout, *name),
+            [name, ..] => {
+                let (all, actor) = (joined(steps), name.actor);
+                format!("{all} ({} steps of actor {actor})", steps.len())
+            }
+            [] => continue,
+        };
+        let _ = writeln!(text, "Only the {which} runs {steps}.");
     }
     text
 }
 
-/// The first dependent pair that the two run in opposite orders, and why it is dependent.
-fn opposed(table: &Table, first: &[StepName], second: &[StepName]) -> String {
-    let Some((i, j)) = reversed(table, first, second) else {
+/// The dependent pairs that the two run in opposite orders, and why they are dependent.
+fn opposed(table: &Table, first: &[StepName], second: &[StepName], pairs: Pairs) -> String {
+    let mut all = reversed(table, first, second);
+    let Some((i, j)) = all.next() else {
         return String::new();
     };
     let (earlier, later) = (first[i], first[j]);
     let [k, l] = [earlier, later].map(|name| place(second, name).unwrap_or_default());
-    let [one, other] = [earlier, later].map(|name| step(&table.layout, name));
-    let rule = rule(&table.layout, earlier, later).unwrap_or_default();
-    format!(
-        "{one} and {other} run in opposite orders (entries count from 0):\n\
+    let (both, rule) = dependent(table, earlier, later);
+    let text = format!(
+        "{both} run in opposite orders (entries count from 0):\n\
         \x20 first schedule: entry {i} is {earlier}, entry {j} is {later}\n\
         \x20 second schedule: entry {l} is {later}, entry {k} is {earlier}\n\
         They are dependent, {rule}.\n"
-    )
+    );
+    let others = all.map(|(i, j)| dependent(table, first[i], first[j]));
+    text + &more(others.collect(), pairs)
 }
 
-/// The first pair of entries of the first schedule, by the later one and then by the earlier one, that
-/// is dependent and that the second schedule runs in the opposite order.
-fn reversed(table: &Table, first: &[StepName], second: &[StepName]) -> Option<(usize, usize)> {
+/// Two dependent steps in words, and why they are dependent.
+fn dependent(table: &Table, one: StepName, other: StepName) -> (String, String) {
+    let layout = &table.layout;
+    let both = format!("{} and {}", step(layout, one), step(layout, other));
+    (both, rule(layout, one, other).unwrap_or_default())
+}
+
+/// What is said of the dependent pairs after the first.
+fn more(others: Vec<(String, String)>, pairs: Pairs) -> String {
+    let number = match others.len() {
+        0 => return String::new(),
+        1 => "1 more dependent pair runs".to_owned(),
+        several => format!("{several} more dependent pairs run"),
+    };
+    let mut text = format!("and {number} in opposite orders");
+    match pairs {
+        Pairs::First => text += "\n",
+        Pairs::All => {
+            text += ":\n";
+            text.extend(
+                others
+                    .iter()
+                    .map(|(both, rule)| format!("  {both}, {rule}\n")),
+            );
+        }
+    }
+    text
+}
+
+/// The pairs of entries of the first schedule that are dependent and that the second schedule runs in
+/// the opposite order: first the one whose later entry comes first, and then whose earlier one does.
+fn reversed(
+    table: &Table,
+    first: &[StepName],
+    second: &[StepName],
+) -> impl Iterator<Item = (usize, usize)> {
     let pairs = (0..first.len()).flat_map(|j| (0..j).map(move |i| (i, j)));
-    let mut opposite =
+    let opposite =
         pairs.filter(
             |&(i, j)| match (place(second, first[i]), place(second, first[j])) {
                 (Some(earlier), Some(later)) => later < earlier,
                 _ => false,
             },
         );
-    opposite.find(|&(i, j)| pair(&table.bytes, first[i], first[j]) == Ok(PairVerdict::Dependent))
+    opposite.filter(|&(i, j)| pair(&table.bytes, first[i], first[j]) == Ok(PairVerdict::Dependent))
 }
 
 fn place(names: &[StepName], name: StepName) -> Option<usize> {

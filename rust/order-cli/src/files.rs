@@ -2,6 +2,7 @@
 
 use crate::answer::Failure;
 use std::fs;
+use std::os::unix::fs::MetadataExt;
 use std::path::Path;
 
 /// The bytes of a file.
@@ -18,4 +19,16 @@ pub fn write(path: &Path, bytes: &[u8]) -> Result<(), Failure> {
         let path = path.display();
         Failure::Trouble(format!("order: cannot write {path}: {error}\n"))
     })
+}
+
+/// Whether both paths lead to one file, whose bytes are lost where it is written: a terminal or another
+/// device is none.
+pub fn are_one(one: &Path, other: &Path) -> bool {
+    let [one, other] = [one, other].map(fs::metadata);
+    match (one, other) {
+        (Ok(one), Ok(other)) => {
+            one.is_file() && (one.dev(), one.ino()) == (other.dev(), other.ino())
+        }
+        _ => false,
+    }
 }

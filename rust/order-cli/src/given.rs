@@ -2,11 +2,12 @@
 
 use crate::answer::Failure;
 use crate::files;
-use crate::operand::{Choice, Operand};
+use crate::operand::{Choice, Operand, Sort};
+use crate::schedule::Schedule;
 use order_engine::StepName;
 use std::ffi::{OsStr, OsString};
 use std::path::Path;
-use tables::text::number;
+use tables::text::{ACTION, ACTOR};
 
 /// Makes the next argument a schedule in text.
 const TEXT: &str = "--text";
@@ -48,16 +49,17 @@ impl<'a> Given<'a> {
                 given.add(operands, Word::Plain(argument))?;
             }
         }
-        match operands.get(given.operands.len()) {
-            Some(missing) => wrong(format!("{} is missing", missing.name)),
-            None => Ok(given),
+        if let Some(missing) = operands.get(given.operands.len()) {
+            return wrong(format!("{} is missing", missing.name));
         }
+        given.keep_apart()?;
+        Ok(given)
     }
 
     /// Adds an operand, the next of these.
     fn add(&mut self, operands: &'static [Operand], word: Word<'a>) -> Result<(), Failure> {
         match (operands.get(self.operands.len()), word) {
-            (Some(operand), Word::Text(_)) if !operand.schedule => wrong(format!(
+            (Some(operand), Word::Text(_)) if operand.sort != Sort::Schedule => wrong(format!(
                 "{TEXT} gives a schedule, and {} is not one",
                 operand.name
             )),
@@ -77,8 +79,8 @@ impl<'a> Given<'a> {
         choice: &'static Choice,
         rest: &mut impl Iterator<Item = &'a OsStr>,
     ) -> Result<(), Failure> {
-        let value = match choice.value {
-            Some(value) => Some(after(rest, choice.name, value)?),
+        let value = match choice.target {
+            Some(target) => Some(after(rest, choice.name, target)?),
             None => None,
         };
         if self.options.iter().any(|(one, _)| one.name == choice.name) {
@@ -86,6 +88,46 @@ impl<'a> Given<'a> {
         }
         self.options.push((choice, value));
         Ok(())
+    }
+
+    /// No file that is written may be one that is read.
+    fn keep_apart(&self) -> Result<(), Failure> {
+        for (target, path) in self.targets() {
+            let mut sources = self.sources();
+            if let Some((source, _)) = sources.find(|(_, source)| files::are_one(source, path)) {
+                let path = path.display();
+                return wrong(format!(
+                    "{target} and {source} are one file, `{path}`: writing it would destroy what it holds"
+                ));
+            }
+        }
+        Ok(())
+    }
+
+    /// The files that are read, each with what stands for it in the usage.
+    fn sources(&self) -> impl Iterator<Item = (&'static str, &'a Path)> {
+        let operands = self.operands.iter();
+        operands.filter_map(|&(operand, word)| match (operand.sort, word) {
+            (Sort::Source | Sort::Schedule, Word::Plain(path)) => {
+                Some((operand.name, Path::new(path)))
+            }
+            (_, Word::Text(_)) | (Sort::Step | Sort::Target, _) => None,
+        })
+    }
+
+    /// The files that are written, likewise.
+    fn targets(&self) -> impl Iterator<Item = (String, &'a Path)> {
+        let operands = self.operands.iter();
+        let named = operands.filter_map(|&(operand, word)| match (operand.sort, word) {
+            (Sort::Target, Word::Plain(path) | Word::Text(path)) => {
+                Some((operand.name.to_owned(), Path::new(path)))
+            }
+            (Sort::Source | Sort::Schedule | Sort::Step, _) => None,
+        });
+        let options = self.options.iter();
+        let chosen = options
+            .filter_map(|(choice, value)| value.map(|path| (choice.usage(), Path::new(path))));
+        named.chain(chosen)
     }
 
     /// The operand, which the sub-command declares.
@@ -109,10 +151,13 @@ impl<'a> Given<'a> {
     }
 
     /// The schedule that the operand names or is.
-    pub fn schedule(&self, operand: &Operand) -> Result<Vec<u8>, Failure> {
+    pub fn schedule(&self, operand: &Operand) -> Result<Schedule, Failure> {
         match self.word(operand.name) {
-            Word::Plain(_) => self.file(operand),
-            Word::Text(text) => entries(&text.to_string_lossy()),
+            Word::Plain(_) => Ok(Schedule::of_file(self.file(operand)?)),
+            Word::Text(text) => Schedule::of_text(&text.to_string_lossy()).or_else(|mistake| {
+                let (column, words) = (mistake.column, mistake.words);
+                wrong(format!("{TEXT}, character {column}: {words}"))
+            }),
         }
     }
 
@@ -147,13 +192,6 @@ fn after<'a>(
     }
 }
 
-/// A schedule from its text: numbers with spaces or commas between them.
-fn entries(text: &str) -> Result<Vec<u8>, Failure> {
-    let parted = text.split(|c: char| c.is_whitespace() || c == ',');
-    let words = parted.filter(|word| !word.is_empty());
-    words.map(|word| byte(word, "an actor")).collect()
-}
-
 /// A step's name from its text, `actor.action`.
 fn step(text: &str) -> Result<StepName, Failure> {
     let Some((actor, action)) = text.split_once('.') else {
@@ -161,16 +199,11 @@ fn step(text: &str) -> Result<StepName, Failure> {
             "`{text}` is no step: expected ACTOR.ACTION, such as 0.1"
         ));
     };
-    Ok(StepName::new(
-        byte(actor, "an actor")?,
-        byte(action, "an action")?,
-    ))
-}
-
-fn byte(word: &str, what: &str) -> Result<u8, Failure> {
-    match number(word).and_then(|number| u8::try_from(number).ok()) {
-        Some(byte) => Ok(byte),
-        None => wrong(format!("`{word}` is not the number of {what}, 0 to 255")),
+    let [actor, action] =
+        [(ACTOR, actor), (ACTION, action)].map(|(number, word)| number.read(word));
+    match (actor, action) {
+        (Ok(actor), Ok(action)) => Ok(StepName::new(actor, action)),
+        (Err(words), _) | (_, Err(words)) => wrong(format!("`{text}` is no step: {words}")),
     }
 }
 

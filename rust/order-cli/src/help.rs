@@ -2,6 +2,7 @@
 
 use crate::command::Command;
 use crate::commands;
+use crate::operand::QUIET;
 use crate::words::joined;
 use std::ffi::OsStr;
 use std::fmt::Write;
@@ -9,12 +10,10 @@ use std::fmt::Write;
 /// Asks for help.
 pub const HELP: &str = "--help";
 
-const STATUSES: &str = "\
-exit status
-  0  answered
-  1  refused: number, position and reason are on standard error
-  2  wrong use, a file that cannot be read or written, or a mistake in a text
-";
+/// Whether the argument asks for help.
+pub fn asked(argument: &OsStr) -> bool {
+    argument == HELP || argument == "-h"
+}
 
 /// What the command is, and its sub-commands.
 pub fn overview() -> String {
@@ -27,7 +26,28 @@ pub fn overview() -> String {
     text += "\n`order COMMAND --help` says more.\n\n";
     text += "A schedule is a file with a byte for each entry, the number of an actor; or, in its place,\n\
         a text: --text \"0 1 0 1\".\n\n";
-    text + STATUSES
+    text + &statuses(commands::ALL)
+}
+
+/// The exit statuses of these sub-commands.
+fn statuses(commands: &[&Command]) -> String {
+    let choices = commands.iter().flat_map(|command| command.options);
+    let verdicts: Vec<[&str; 2]> = choices.filter_map(|choice| choice.verdicts).collect();
+    let [yes, no] = [0, 1].map(|place| {
+        let words: Vec<&str> = verdicts.iter().map(|both| both[place]).collect();
+        format!("with {QUIET}: {}", words.join(" or "))
+    });
+    let (answered, last) = match verdicts.is_empty() {
+        true => ("answered".to_owned(), String::new()),
+        false => (format!("answered; {yes}"), format!("  3  {no}\n")),
+    };
+    format!(
+        "exit status\n\
+        \x20 0  {answered}\n\
+        \x20 1  refused: number, position and reason are on standard error\n\
+        \x20 2  wrong use, a file that cannot be read or written, or a mistake in a text\n\
+        {last}"
+    )
 }
 
 /// How a sub-command is used and what it does, with an example.
@@ -41,7 +61,8 @@ pub fn of(command: &Command) -> String {
     for (name, what) in operands.chain(options) {
         let _ = writeln!(text, "  {name:<15}{what}");
     }
-    let _ = write!(text, "\n{STATUSES}\nexample, in examples/forecourt\n");
+    let statuses = statuses(&[command]);
+    let _ = write!(text, "\n{statuses}\nexample, in examples/forecourt\n");
     let _ = writeln!(text, "  $ {}", command.example.line);
     for line in command.example.output.lines() {
         let _ = writeln!(text, "{}", format!("  {line}").trim_end());

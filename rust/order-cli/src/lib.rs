@@ -5,7 +5,7 @@
 //! command line and gives an [`Answer`] or a [`Failure`]. What several of them say has a module here:
 //!
 //! - [`words`]: a step in words, [`rule`]: why two steps are dependent, [`waits`]: what a step waits
-//!   for;
+//!   for, [`posts`]: what became of a Send or a Receive;
 //! - [`names`]: the steps that a schedule runs, [`state`]: where it leads to, [`difference`]: how two
 //!   of them differ;
 //! - [`refusals`]: what a refusal points at.
@@ -21,8 +21,10 @@ pub mod given;
 pub mod help;
 pub mod names;
 pub mod operand;
+pub mod posts;
 pub mod refusals;
 pub mod rule;
+pub mod schedule;
 pub mod state;
 pub mod table;
 pub mod waits;
@@ -37,13 +39,13 @@ pub fn answer(arguments: &[OsString]) -> Said {
     let Some((name, rest)) = arguments.split_first() else {
         return Said::failed(help::overview(), answer::WRONG_USE);
     };
-    if name == help::HELP {
+    if help::asked(name) {
         return Answer::of(help::overview()).into();
     }
     let Some(command) = commands::ALL.iter().find(|command| name == command.name) else {
         return Said::failed(help::no_command(name), answer::WRONG_USE);
     };
-    if rest.iter().any(|argument| argument == help::HELP) {
+    if rest.iter().any(|argument| help::asked(argument)) {
         return Answer::of(help::of(command)).into();
     }
     let given = Given::of(command.operands, command.options, rest);

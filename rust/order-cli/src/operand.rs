@@ -7,8 +7,21 @@ pub struct Operand {
     pub name: &'static str,
     /// What it is, in a line.
     pub what: &'static str,
-    /// Whether it is a schedule, so that a text may stand for the file.
-    pub schedule: bool,
+    /// What is done with it.
+    pub sort: Sort,
+}
+
+/// What is done with an operand.
+#[derive(Clone, Copy, PartialEq, Eq, Debug)]
+pub enum Sort {
+    /// A file that is read.
+    Source,
+    /// A schedule: a file that is read, or a text in its place.
+    Schedule,
+    /// A step's name.
+    Step,
+    /// A file that is written.
+    Target,
 }
 
 /// Something that may stand anywhere after a sub-command's name.
@@ -16,17 +29,19 @@ pub struct Operand {
 pub struct Choice {
     /// Its name, with two dashes.
     pub name: &'static str,
-    /// What stands in the usage for the value that follows, if one does.
-    pub value: Option<&'static str>,
+    /// What stands in the usage for the file that follows and is written, if one does.
+    pub target: Option<&'static str>,
     /// What it does, in a line.
     pub what: &'static str,
+    /// The two verdicts for which the exit status then stands, if it does.
+    pub verdicts: Option<[&'static str; 2]>,
 }
 
 /// The table, which almost all sub-commands ask for.
 pub const TABLE: Operand = Operand {
     name: "TABLE",
     what: "the file of a task table",
-    schedule: false,
+    sort: Sort::Source,
 };
 
 /// The one schedule.
@@ -42,12 +57,27 @@ pub const FIRST: Operand = schedule(
 /// The second of two schedules.
 pub const SECOND: Operand = schedule("SECOND", "another, likewise");
 
-/// Lets the exit status answer; `what` says how.
-pub const fn quiet(what: &'static str) -> Choice {
+/// The option that lets the exit status answer.
+pub const QUIET: &str = "--quiet";
+
+/// Lets the exit status answer: 0 for the verdict `yes`, 3 for `no`.
+pub const fn quiet(yes: &'static str, no: &'static str) -> Choice {
     Choice {
-        name: "--quiet",
-        value: None,
+        verdicts: Some([yes, no]),
+        ..plain(
+            QUIET,
+            "nothing on standard output; a refusal still on standard error",
+        )
+    }
+}
+
+/// An option that nothing follows.
+pub const fn plain(name: &'static str, what: &'static str) -> Choice {
+    Choice {
+        name,
+        target: None,
         what,
+        verdicts: None,
     }
 }
 
@@ -55,15 +85,15 @@ const fn schedule(name: &'static str, what: &'static str) -> Operand {
     Operand {
         name,
         what,
-        schedule: true,
+        sort: Sort::Schedule,
     }
 }
 
 impl Choice {
     /// How it is used.
     pub fn usage(&self) -> String {
-        match self.value {
-            Some(value) => format!("{} {value}", self.name),
+        match self.target {
+            Some(target) => format!("{} {target}", self.name),
             None => self.name.to_owned(),
         }
     }

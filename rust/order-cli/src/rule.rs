@@ -25,6 +25,9 @@ enum Part {
 
 /// Which case makes two steps dependent, if one does.
 pub fn rule(layout: &Layout, one: StepName, other: StepName) -> Option<String> {
+    if one == other {
+        return Some("a step and itself are always dependent".to_owned());
+    }
     if one.actor == other.actor {
         return Some("two steps of one actor are always dependent".to_owned());
     }

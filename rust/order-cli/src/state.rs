@@ -1,10 +1,11 @@
 //! Where a schedule leads to, in words.
 
+use crate::posts::{met, waiting};
 use crate::table::Table;
+use crate::waits::reason;
 use crate::words::{count, joined, spaced, step};
-use order_engine::report::{Actor, Mailbox, Mutex, Stage};
+use order_engine::report::{Actor, Mailbox, Mutex};
 use order_engine::{Ending, Ready, Refusal, Report, StepName, ready, run};
-use tables::Kind;
 
 /// The state that a schedule leads to.
 pub struct State<'a> {
@@ -16,14 +17,14 @@ pub struct State<'a> {
 }
 
 /// How an actor stands.
-#[derive(Clone, Copy, PartialEq, Eq, Debug)]
+#[derive(Clone, PartialEq, Eq, Debug)]
 pub enum Status {
     /// It has run all its actions.
     Finished,
     /// It can run this step.
     Ready(StepName),
-    /// It cannot yet run this step.
-    Waits(StepName),
+    /// It cannot yet run this step, and why.
+    Waits(StepName, String),
 }
 
 impl<'a> State<'a> {
@@ -44,22 +45,29 @@ impl<'a> State<'a> {
         } else if self.ready.actors().any(|ready| ready == actor.number) {
             Status::Ready(next)
         } else {
-            Status::Waits(next)
+            Status::Waits(next, reason(self.table, &self.report, next))
         }
     }
 
-    /// What became of a communication.
-    pub fn stage(&self, step: StepName) -> Stage {
-        let mut all = self.report.communications();
-        let found = all.find(|communication| communication.step == step);
-        found.map_or(Stage::Unposted, |communication| communication.stage)
+    /// All of it: how the whole stands, then actors, pairs that have met, mailboxes and mutexes. States
+    /// that differ have other words.
+    pub fn words(&self) -> String {
+        let report = &self.report;
+        let mut text = format!("{}\n", self.ending());
+        text.extend(report.actors().map(|actor| self.actor(&actor)));
+        text += &met(self.table, report);
+        text.extend(report.mailboxes().map(|mailbox| self.mailbox(&mailbox)));
+        text.extend(report.mutexes().map(|mutex| queue(&mutex)));
+        text
     }
 
     /// How the whole stands.
     pub fn ending(&self) -> String {
         match self.ready.ending {
             Ending::Finished => "finished: every actor has run all its actions".to_owned(),
-            Ending::Stuck => "stuck: no actor is ready, and not all are finished".to_owned(),
+            Ending::Stuck => {
+                "stuck: a deadlock, no actor is ready and not all are finished".to_owned()
+            }
             Ending::Going => {
                 let ready = count(self.ready.count as usize, "actor is", "actors are");
                 format!("going: {ready} ready")
@@ -67,8 +75,22 @@ impl<'a> State<'a> {
         }
     }
 
+    /// The ready answer's mask, and whose bits are set in it.
+    pub fn mask(&self) -> String {
+        let actors = match self.ready.count {
+            0 => "no actor",
+            1 => "actor ",
+            _ => "actors ",
+        };
+        format!(
+            "mask {}: {actors}{}",
+            self.ready.mask,
+            joined(self.ready.actors())
+        )
+    }
+
     /// Where the actor stands, and its cells.
-    pub fn actor(&self, actor: &Actor) -> String {
+    fn actor(&self, actor: &Actor) -> String {
         let Actor {
             number,
             position,
@@ -79,15 +101,20 @@ impl<'a> State<'a> {
         let stands = match self.status(actor) {
             Status::Finished => "finished".to_owned(),
             Status::Ready(next) => format!("next {}, ready", step(&self.table.layout, next)),
-            Status::Waits(next) => format!("next {}, waits", step(&self.table.layout, next)),
+            Status::Waits(next, why) => {
+                format!("next {}, waits: {why}", step(&self.table.layout, next))
+            }
         };
         let cells = spaced(cells);
         format!("actor {number}: at {position} of {actions}, {stands}\n  cells: {cells}\n")
     }
 
     /// What waits in the mailbox, the oldest first.
-    pub fn mailbox(&self, mailbox: &Mailbox) -> String {
-        let steps: Vec<String> = mailbox.steps().map(|name| self.waiting(name)).collect();
+    fn mailbox(&self, mailbox: &Mailbox) -> String {
+        let steps = mailbox.steps();
+        let steps: Vec<String> = steps
+            .map(|name| waiting(self.table, &self.report, name))
+            .collect();
         let queue = match steps.is_empty() {
             true => "empty".to_owned(),
             false => steps.join(", then "),
@@ -95,33 +122,22 @@ impl<'a> State<'a> {
         format!("mailbox {}: {queue}\n", mailbox.number())
     }
 
-    /// Who is queued for the mutex.
-    pub fn mutex(&self, mutex: &Mutex) -> String {
-        let mut actors = mutex.actors();
-        let queue = match actors.next() {
-            None => "free".to_owned(),
-            Some(owner) => {
-                let owned = format!("actor {owner} owns it");
-                let others = actors.map(|actor| format!("then actor {actor}"));
-                joined([owned].into_iter().chain(others))
-            }
-        };
-        format!("mutex {}: {queue}\n", mutex.number())
-    }
-
-    /// A step that waits in a mailbox, a Send with its value.
-    fn waiting(&self, name: StepName) -> String {
-        match (self.table.kind(name), self.stage(name)) {
-            (Some(Kind::Send), Stage::Pending { value }) => {
-                format!("{name} {} with {value}", Kind::Send.name())
-            }
-            (Some(kind), _) => format!("{name} {}", kind.name()),
-            (None, _) => name.to_string(),
-        }
-    }
-
     fn actions(&self, actor: u8) -> usize {
         let script = self.table.layout.scripts.get(usize::from(actor));
         script.map_or(0, Vec::len)
     }
+}
+
+/// Who is queued for the mutex.
+fn queue(mutex: &Mutex) -> String {
+    let mut actors = mutex.actors();
+    let queue = match actors.next() {
+        None => "free".to_owned(),
+        Some(owner) => {
+            let owned = format!("actor {owner} owns it");
+            let others = actors.map(|actor| format!("then actor {actor}"));
+            joined([owned].into_iter().chain(others))
+        }
+    };
+    format!("mutex {}: {queue}\n", mutex.number())
 }

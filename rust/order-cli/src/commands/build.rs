@@ -4,22 +4,22 @@ use crate::answer::{Answer, Failure};
 use crate::command::{Command, Example};
 use crate::files;
 use crate::given::Given;
-use crate::operand::Operand;
-use crate::refusals::{Asked, place, told};
+use crate::operand::{Operand, Sort};
+use crate::refusals::{Asked, place, pointed};
 use crate::table::Table;
 use std::path::Path;
-use tables::text::{Built, Mistake, Place, build};
+use tables::text::{Built, Mistake, build, decode};
 
 const TEXT: Operand = Operand {
     name: "TEXT",
     what: "the file of a text, as `order show` prints it; # begins a comment",
-    schedule: false,
+    sort: Sort::Source,
 };
 
 const TARGET: Operand = Operand {
     name: "TABLE",
     what: "the file that the table is written to",
-    schedule: false,
+    sort: Sort::Target,
 };
 
 /// The sub-command.
@@ -28,8 +28,7 @@ pub static COMMAND: Command = Command {
     summary: "a table from a text",
     about: "\
 Builds a task table from a text and writes it, if the engine accepts it. A mistake in the text is
-named with its line and column, and so is the line of what the engine refuses; nothing is written
-then.",
+named with its line and column, and so is what the engine refuses; nothing is written then.",
     operands: &[TEXT, TARGET],
     options: &[],
     example: Example {
@@ -46,39 +45,31 @@ actor 2: 2 actions
 
 fn run(given: &Given) -> Result<Answer, Failure> {
     let path = given.path(&TEXT);
-    let text = utf8(given.file(&TEXT)?).map_err(|mistake| at(path, &mistake))?;
-    let built = build(&text).map_err(|mistake| at(path, &mistake))?;
-    let table = accepted(path, &text, &built)?;
+    let bytes = given.file(&TEXT)?;
+    let built = decode(&bytes).and_then(build);
+    let built = built.map_err(|mistake| at(path, &mistake))?;
+    let table = accepted(path, &built)?;
     let target = given.path(&TARGET);
     files::write(target, &table.bytes)?;
     let words = format!("wrote {}: {}", target.display(), table.summary());
     Ok(Answer::of(words))
 }
 
-fn utf8(bytes: Vec<u8>) -> Result<String, Mistake> {
-    String::from_utf8(bytes).map_err(|error| {
-        let valid = &error.as_bytes()[..error.utf8_error().valid_up_to()];
-        let place = Place::end_of(&String::from_utf8_lossy(valid));
-        Mistake::new(place, "expected a text, found bytes that are not UTF-8")
-    })
-}
-
 fn at(path: &Path, mistake: &Mistake) -> Failure {
     Failure::Trouble(format!("{}:{mistake}\n", path.display()))
 }
 
-/// The table, if the engine accepts it; a refusal with the line of the text that it points at.
-fn accepted(path: &Path, text: &str, built: &Built) -> Result<Table, Failure> {
+/// The table, if the engine accepts it; a refusal with the place in the text that it points at.
+fn accepted(path: &Path, built: &Built) -> Result<Table, Failure> {
     let bytes = built.layout.bytes();
     Table::of(&bytes).map_err(|refusal| {
         let place = place(refusal, built);
-        let line = place.map_or_else(String::new, |place| pointed(path, text, place));
-        Failure::Refused(told(refusal, &Asked::of(&bytes)) + &line)
+        let place = place.map_or_else(String::new, |place| format!("{place}:"));
+        let (number, sentence) = (refusal.number(), refusal.sentence());
+        let words = pointed(refusal, &Asked::of(&bytes));
+        let path = path.display();
+        Failure::Refused(format!(
+            "{path}:{place} refused {number}: {sentence}\n{words}"
+        ))
     })
-}
-
-/// The line of the text at `place`.
-fn pointed(path: &Path, text: &str, place: Place) -> String {
-    let line = text.lines().nth(place.line - 1).unwrap_or_default();
-    format!("{}:{place}: {}\n", path.display(), line.trim())
 }

@@ -3,7 +3,7 @@
 use crate::answer::{Answer, Failure};
 use crate::command::{Command, Example};
 use crate::given::Given;
-use crate::operand::{Choice, Operand, TABLE, quiet};
+use crate::operand::{Choice, Operand, Sort, TABLE, quiet};
 use crate::refusals::{Asked, accepted, refused};
 use crate::rule::rule;
 use crate::words::step;
@@ -12,16 +12,16 @@ use order_engine::{PairVerdict, pair};
 const ONE: Operand = Operand {
     name: "A.K",
     what: "a step: actor A's action K, both counted from 0",
-    schedule: false,
+    sort: Sort::Step,
 };
 
 const OTHER: Operand = Operand {
     name: "B.L",
     what: "another, likewise",
-    schedule: false,
+    sort: Sort::Step,
 };
 
-const QUIET: Choice = quiet("print nothing; exit with 0 for independent, 3 for dependent");
+const QUIET: Choice = quiet("independent", "dependent");
 
 /// The sub-command.
 pub static COMMAND: Command = Command {

@@ -6,7 +6,6 @@ use crate::given::Given;
 use crate::operand::{SCHEDULE, TABLE};
 use crate::refusals::{accepted, reached};
 use crate::state::{State, Status};
-use crate::waits::reason;
 use crate::words::step;
 use order_engine::REPORT_ROOM;
 use order_engine::report::Actor;
@@ -16,14 +15,16 @@ pub static COMMAND: Command = Command {
     name: "ready",
     summary: "who can go on after a schedule, and who waits for what",
     about: "\
-Runs a schedule from a fresh site and says of each actor whether it is ready, waits or is finished:
-its next step, and what it waits for.",
+Runs a schedule from a fresh site and says how the state stands that it leads to, the mask of the
+ready actors (bit i, from the lowest, is actor i's), and of each actor whether it is ready, waits or
+is finished: its next step, and what it waits for.",
     operands: &[TABLE, SCHEDULE],
     options: &[],
     example: Example {
         line: "order ready loyalty-first/site.tab --text \"2 0\"",
         output: "\
 going: 2 actors are ready
+mask 3: actors 0, 1
 actor 0 is ready: 0.1 Send to mailbox 0
 actor 1 is ready: 1.0 Set cell 0 to 139
 actor 2 waits: 2.1 WaitAny for 2.0; 2.0 Receive from mailbox 0 has met no Send
@@ -37,7 +38,7 @@ fn run(given: &Given) -> Result<Answer, Failure> {
     let table = accepted(&table)?;
     let mut buffer = [0; REPORT_ROOM];
     let state = reached(&table, &schedule, &mut buffer)?;
-    let mut text = format!("{}\n", state.ending());
+    let mut text = format!("{}\n{}\n", state.ending(), state.mask());
     text.extend(state.report.actors().map(|actor| stands(&state, &actor)));
     Ok(Answer::of(text))
 }
@@ -49,8 +50,7 @@ fn stands(state: &State, actor: &Actor) -> String {
     match state.status(actor) {
         Status::Finished => format!("actor {number} is finished\n"),
         Status::Ready(next) => format!("actor {number} is ready: {}\n", step(layout, next)),
-        Status::Waits(next) => {
-            let why = reason(state, next);
+        Status::Waits(next, why) => {
             format!("actor {number} waits: {}; {why}\n", step(layout, next))
         }
     }

@@ -58,7 +58,7 @@ fn room(table: &Table, first: &[u8], second: &[u8]) -> usize {
 fn told(table: &Table, first: &[u8], route: &[u16]) -> String {
     let mut steps = names(&table.bytes, first);
     let mut text = match route.len() {
-        0 => "no exchange: the two schedules are alike\n".to_owned(),
+        0 => "no exchange: the two schedules are equal\n".to_owned(),
         length => format!(
             "{}:\n",
             count(length, "exchange", "exchanges, one after the other")
@@ -73,6 +73,9 @@ fn told(table: &Table, first: &[u8], route: &[u16]) -> String {
         );
         steps.swap(k, k + 1);
     }
-    let entries = spaced(steps.iter().map(|name| name.actor));
-    text + &format!("then the schedule is: {entries}\n")
+    if !steps.is_empty() {
+        let entries = spaced(steps.iter().map(|name| name.actor));
+        text += &format!("then the schedule is: {entries}\n");
+    }
+    text
 }

@@ -4,27 +4,30 @@ use crate::answer::{Answer, Failure};
 use crate::command::{Command, Example};
 use crate::files;
 use crate::given::Given;
-use crate::operand::{Choice, SCHEDULE, TABLE};
+use crate::names::names;
+use crate::operand::{Choice, SCHEDULE, TABLE, plain};
 use crate::refusals::{accepted, reached};
-use crate::words::count;
+use crate::table::Table;
+use crate::words::{count, step};
 use order_engine::REPORT_ROOM;
 
+const STEPS: Choice = plain("--steps", "first say which step each entry runs");
+
 const REPORT: Choice = Choice {
-    name: "--report",
-    value: Some("FILE"),
-    what: "also write the state report's bytes to FILE",
+    target: Some("FILE"),
+    ..plain("--report", "also write the state report's bytes to FILE")
 };
 
 /// The sub-command.
 pub static COMMAND: Command = Command {
     name: "run",
-    summary: "what a schedule leads to: positions, cells, queues",
+    summary: "what a schedule leads to: positions, cells, pairs, queues",
     about: "\
 Runs a schedule from a fresh site and says how the state stands that it leads to: finished, stuck
-or going; where each actor stands and what its eight cells hold; what waits in each mailbox; and who
-is queued for each mutex, the owner first.",
+or going; where each actor stands and what its eight cells hold; which Receive has met which Send,
+and the value; what waits in each mailbox; and who is queued for each mutex, the owner first.",
     operands: &[TABLE, SCHEDULE],
-    options: &[REPORT],
+    options: &[STEPS, REPORT],
     example: Example {
         line: "order run loyalty-first/site.tab --text \"0 0 1 1\"",
         output: "\
@@ -46,15 +49,11 @@ fn run(given: &Given) -> Result<Answer, Failure> {
     let table = accepted(&table)?;
     let mut buffer = [0; REPORT_ROOM];
     let state = reached(&table, &schedule, &mut buffer)?;
-    let mut text = format!("{}\n", state.ending());
-    text.extend(state.report.actors().map(|actor| state.actor(&actor)));
-    text.extend(
-        state
-            .report
-            .mailboxes()
-            .map(|mailbox| state.mailbox(&mailbox)),
-    );
-    text.extend(state.report.mutexes().map(|mutex| state.mutex(&mutex)));
+    let mut text = String::new();
+    if given.has(&STEPS) {
+        text += &steps(&table, &schedule);
+    }
+    text += &state.words();
     if let Some(path) = given.path_after(&REPORT) {
         let bytes = state.report.bytes();
         files::write(path, bytes)?;
@@ -62,4 +61,12 @@ fn run(given: &Given) -> Result<Answer, Failure> {
         text += &format!("report: {written} written to {}\n", path.display());
     }
     Ok(Answer::of(text))
+}
+
+/// A line for each entry of an accepted schedule: the step that it runs.
+fn steps(table: &Table, schedule: &[u8]) -> String {
+    let names = names(&table.bytes, schedule).into_iter().enumerate();
+    let lines =
+        names.map(|(entry, name)| format!("entry {entry}: {}\n", step(&table.layout, name)));
+    lines.collect()
 }

@@ -2,13 +2,18 @@
 
 use crate::answer::{Answer, Failure};
 use crate::command::{Command, Example};
-use crate::difference::difference;
+use crate::difference::{Pairs, difference};
 use crate::given::Given;
-use crate::operand::{Choice, FIRST, SECOND, TABLE, quiet};
+use crate::operand::{Choice, FIRST, SECOND, TABLE, plain, quiet};
 use crate::refusals::{Asked, accepted, refused};
 use order_engine::{SameVerdict, same};
 
-const QUIET: Choice = quiet("print nothing; exit with 0 for same, 3 for different");
+const ALL: Choice = plain(
+    "--all",
+    "name all dependent pairs that run in opposite orders",
+);
+
+const QUIET: Choice = quiet("same", "different");
 
 /// The sub-command.
 pub static COMMAND: Command = Command {
@@ -17,10 +22,11 @@ pub static COMMAND: Command = Command {
     about:
         "\
 Says whether two schedules are the same run: whether exchanges of independent neighbours turn the
-first into the second, so that both end in the same state. Of different ones it names the first
-dependent pair of steps that they run in opposite orders, and the steps that only one of them runs.",
+first into the second, so that both end in the same state. Of different ones it names the steps that
+only one of them runs, and the first dependent pair of steps that they run in opposite orders: the one
+whose later step comes first in FIRST, and of several such the one whose earlier step does.",
     operands: &[TABLE, FIRST, SECOND],
-    options: &[QUIET],
+    options: &[ALL, QUIET],
     example: Example {
         line: "order same loyalty-first/site.tab loyalty-first/order.sch fleet-first/order.sch",
         output: "\
@@ -46,7 +52,12 @@ fn run(given: &Given) -> Result<Answer, Failure> {
     Ok(Answer::of(match answer.verdict {
         SameVerdict::Same => "same\n".to_owned(),
         SameVerdict::Different => {
-            format!("different\n{}", difference(&table, &first, &second))
+            let pairs = match given.has(&ALL) {
+                true => Pairs::All,
+                false => Pairs::First,
+            };
+            let words = difference(&table, &first, &second, pairs);
+            format!("different\n{words}")
         }
     }))
 }

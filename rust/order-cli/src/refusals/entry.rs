@@ -1,13 +1,13 @@
 //! Refusals 11 to 16: the entry, what it says, and why that cannot be in the state before it.
 
+use crate::schedule::Schedule;
 use crate::state::{State, Status};
 use crate::table::Table;
-use crate::waits::reason;
 use crate::words::{count, step};
 use order_engine::REPORT_ROOM;
 
 /// Why the entry at `index` is refused after those before it.
-pub(super) fn words(table: &Table, schedule: &[u8], index: usize) -> String {
+pub(super) fn words(table: &Table, schedule: &Schedule, index: usize) -> String {
     let Some((before, &[actor, ..])) = schedule.split_at_checked(index) else {
         return String::new();
     };
@@ -18,19 +18,36 @@ pub(super) fn words(table: &Table, schedule: &[u8], index: usize) -> String {
     let why = match state.report.actors().nth(actor.into()) {
         None => {
             let actors = count(table.layout.scripts.len(), "actor", "actors");
-            format!("the table has {actors}, numbered from 0")
+            let hint = character(schedule, actor);
+            format!("the table has {actors}, numbered from 0{hint}")
         }
         Some(found) => match state.status(&found) {
             Status::Finished => {
                 let actions = count(found.position.into(), "action", "actions");
                 format!("it finished after {actions}")
             }
-            Status::Ready(next) => format!("next is {}", step(&table.layout, next)),
-            Status::Waits(next) => {
-                let next_step = step(&table.layout, next);
-                format!("next is {next_step}, which waits: {}", reason(&state, next))
+            Status::Ready(next) => format!("{} is ready", step(&table.layout, next)),
+            Status::Waits(next, why) => {
+                format!("{} is not ready: {why}", step(&table.layout, next))
             }
         },
     };
-    format!("entry {index} says actor {actor}: {why}\n")
+    format!("entry {index} says actor {actor}, but {why}\n")
+}
+
+/// A line for the entry of a file that was written as a text.
+fn character(schedule: &Schedule, entry: u8) -> String {
+    let name = match entry {
+        b'\n' => "a line feed".to_owned(),
+        b' ' => "a space".to_owned(),
+        b',' => "a comma".to_owned(),
+        b'0'..=b'9' => format!("the character {}", char::from(entry)),
+        _ => return String::new(),
+    };
+    match schedule.is_file() {
+        true => format!(
+            "\n{entry} is {name}: a schedule file has a byte for each entry; --text takes a text"
+        ),
+        false => String::new(),
+    }
 }

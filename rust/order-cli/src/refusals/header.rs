@@ -3,6 +3,7 @@
 use crate::words::count;
 use std::ops::RangeInclusive;
 use tables::layout::{ACTION, EDITION, ENTRY, HEADER, MOST, MOST_ACTIONS, first_offset};
+use tables::text::looks_like_text;
 
 /// The counts of a header, and their ranges.
 const COUNTS: [(&str, RangeInclusive<u8>); 3] = [
@@ -36,13 +37,23 @@ pub(super) enum Fault {
 /// Refusal 1.
 pub(super) fn length(table: &[u8]) -> String {
     let bytes = count(table.len(), "byte", "bytes");
-    format!("the file has {bytes}, a header has {HEADER}\n")
+    let hint = text(table);
+    format!("the file has {bytes}, a header has {HEADER}\n{hint}")
 }
 
 /// Refusal 2.
 pub(super) fn edition(table: &[u8]) -> String {
     let said = table.first().copied().unwrap_or_default();
-    format!("the first byte is {said}, the edition is {EDITION}\n")
+    let hint = text(table);
+    format!("the first byte is {said}, the edition is {EDITION}\n{hint}")
+}
+
+/// A line for a file that is no table but the text of one. Its first byte is not the edition.
+fn text(table: &[u8]) -> &'static str {
+    match looks_like_text(table) {
+        true => "this looks like a text: order build makes a table of it\n",
+        false => "",
+    }
 }
 
 /// Refusal 3.

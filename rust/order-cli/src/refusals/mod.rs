@@ -9,7 +9,8 @@ mod text;
 pub use text::place;
 
 use crate::answer::Failure;
-use crate::difference::difference;
+use crate::difference::{Pairs, difference};
+use crate::schedule::Schedule;
 use crate::state::State;
 use crate::table::Table;
 use order_engine::{Reason, Refusal, StepName};
@@ -21,9 +22,9 @@ pub struct Asked<'a> {
     /// The table's bytes.
     pub table: &'a [u8],
     /// The schedule, or the first of two.
-    pub first: &'a [u8],
+    pub first: Option<&'a Schedule>,
     /// The second schedule.
-    pub second: &'a [u8],
+    pub second: Option<&'a Schedule>,
     /// The steps.
     pub steps: &'a [StepName],
 }
@@ -38,16 +39,18 @@ impl<'a> Asked<'a> {
     }
 
     /// A question about a schedule.
-    pub fn of_one(table: &'a [u8], schedule: &'a [u8]) -> Self {
-        Self::of_two(table, schedule, &[])
+    pub fn of_one(table: &'a [u8], schedule: &'a Schedule) -> Self {
+        Self {
+            first: Some(schedule),
+            ..Self::of(table)
+        }
     }
 
     /// A question about two schedules.
-    pub fn of_two(table: &'a [u8], first: &'a [u8], second: &'a [u8]) -> Self {
+    pub fn of_two(table: &'a [u8], first: &'a Schedule, second: &'a Schedule) -> Self {
         Self {
-            first,
-            second,
-            ..Self::of(table)
+            second: Some(second),
+            ..Self::of_one(table, first)
         }
     }
 
@@ -68,25 +71,20 @@ pub fn accepted(bytes: &[u8]) -> Result<Table, Failure> {
 /// The state that a schedule leads to, if the engine accepts it; otherwise the refusal in words.
 pub fn reached<'a>(
     table: &'a Table,
-    schedule: &[u8],
+    schedule: &Schedule,
     buffer: &'a mut [u8],
 ) -> Result<State<'a>, Failure> {
     State::after(table, schedule, buffer)
         .map_err(|refusal| refused(refusal, &Asked::of_one(&table.bytes, schedule)))
 }
 
-/// A refusal as the answer to what was asked.
+/// A refusal as the answer to what was asked, with what it points at.
 pub fn refused(refusal: Refusal, asked: &Asked) -> Failure {
-    Failure::Refused(told(refusal, asked))
-}
-
-/// A refusal in words, with what it points at.
-pub fn told(refusal: Refusal, asked: &Asked) -> String {
-    format!("{refusal}\n{}", pointed(refusal, asked))
+    Failure::Refused(format!("{refusal}\n{}", pointed(refusal, asked)))
 }
 
 /// What a refusal points at. A reason that has no words here is said by its sentence alone.
-fn pointed(refusal: Refusal, asked: &Asked) -> String {
+pub fn pointed(refusal: Refusal, asked: &Asked) -> String {
     let index = refusal.position() as usize;
     match refusal.reason() {
         Reason::ShortTable => header::length(asked.table),
@@ -99,13 +97,16 @@ fn pointed(refusal: Refusal, asked: &Asked) -> String {
             layout.map_or_else(String::new, |layout| action::words(refusal, &layout))
         }
         Reason::NoActor | Reason::Finished | Reason::NotReady => {
-            of_table(asked, |table| entry::words(table, asked.first, index))
+            of_entry(asked, asked.first, index)
         }
         Reason::SecondNoActor | Reason::SecondFinished | Reason::SecondNotReady => {
-            of_table(asked, |table| entry::words(table, asked.second, index))
+            of_entry(asked, asked.second, index)
         }
         Reason::NoStep => of_table(asked, |table| name::words(&table.layout, asked.steps)),
-        Reason::Different => of_table(asked, |table| difference(table, asked.first, asked.second)),
+        Reason::Different => of_table(asked, |table| match (asked.first, asked.second) {
+            (Some(first), Some(second)) => difference(table, first, second, Pairs::First),
+            _ => String::new(),
+        }),
         _ => String::new(),
     }
 }
@@ -114,4 +115,11 @@ fn pointed(refusal: Refusal, asked: &Asked) -> String {
 fn of_table(asked: &Asked, words: impl FnOnce(&Table) -> String) -> String {
     let table = Table::of(asked.table).ok();
     table.as_ref().map_or_else(String::new, words)
+}
+
+/// Words about an entry of a schedule.
+fn of_entry(asked: &Asked, schedule: Option<&Schedule>, index: usize) -> String {
+    schedule.map_or_else(String::new, |schedule| {
+        of_table(asked, |table| entry::words(table, schedule, index))
+    })
 }

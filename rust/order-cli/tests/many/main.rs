@@ -4,7 +4,7 @@
 mod generate;
 
 use generate::{Random, table};
-use order_cli::difference::difference;
+use order_cli::difference::{Pairs, difference};
 use order_cli::names::names;
 use order_cli::rule::rule;
 use order_cli::table::Table;
@@ -94,7 +94,9 @@ fn a_rule_exactly_where_the_engine_says_dependent() {
             met.insert(said.map_or_else(String::new, |words| words.chars().take(6).collect()));
         }
     }
-    let wanted = ["", "two st", "case 1", "case 2", "case 3", "case 4"];
+    let wanted = [
+        "", "a step", "two st", "case 1", "case 2", "case 3", "case 4",
+    ];
     assert_eq!(met, HashSet::from(wanted.map(str::to_owned)));
 }
 
@@ -118,7 +120,7 @@ fn different_schedules_are_told_apart() {
     for _ in 0..2_000 {
         let table = Table::of(&table(&mut random).bytes()).expect("an accepted table");
         let [first, second] = [20, 20].map(|most| walk(&mut random, &table.bytes, most));
-        let told = difference(&table, &first, &second);
+        let told = difference(&table, &first, &second, Pairs::First);
         let [one, other] = [&first, &second].map(|schedule| {
             let names = names(&table.bytes, schedule);
             assert!(

@@ -2,8 +2,9 @@
 
 use super::actions::action;
 use super::line::Line;
+use super::number::Number;
 use super::place::{Mistake, Place};
-use crate::layout::Layout;
+use crate::layout::{Layout, MOST};
 
 /// The most actions of an actor that a directory's entry can count.
 const COUNTED: usize = u16::MAX as usize;
@@ -27,10 +28,10 @@ pub fn build(text: &str) -> Result<Built, Mistake> {
     let all = numbered.map(|(line, number)| Line::of(number, line));
     let mut lines = all.filter(|line| !line.is_empty());
     let end = Place::end_of(text);
-    let mut count = |word| count(lines.next(), word, end);
-    let (actors, first) = count("actors")?;
-    let (mailboxes, second) = count("mailboxes")?;
-    let (mutexes, third) = count("mutexes")?;
+    let mut count = |word, what| count(lines.next(), word, Number::up_to(what, MOST), end);
+    let (actors, first) = count("actors", "the number of actors")?;
+    let (mailboxes, second) = count("mailboxes", "the number of mailboxes")?;
+    let (mutexes, third) = count("mutexes", "the number of mutexes")?;
     let mut built = Built {
         layout: Layout::new(mailboxes, mutexes, &[]),
         counts: [first, second, third],
@@ -50,14 +51,19 @@ pub fn build(text: &str) -> Result<Built, Mistake> {
 }
 
 /// Reads a line that is `word` and a number, and where the number stands.
-fn count(line: Option<Line>, word: &str, end: Place) -> Result<(u8, Place), Mistake> {
+fn count(
+    line: Option<Line>,
+    word: &str,
+    number: Number<u8>,
+    end: Place,
+) -> Result<(u8, Place), Mistake> {
     let Some(mut line) = line else {
         let words = format!("expected `{word}` and a number, the text ends here");
         return Err(Mistake::new(end, words));
     };
     line.expect(word)?;
     let place = line.place();
-    let number = line.byte(&format!("the number of {word}"))?;
+    let number = line.number(number)?;
     line.finish()?;
     Ok((number, place))
 }
@@ -95,7 +101,7 @@ impl Built {
         if next == usize::from(actors) {
             return Err(line.mistake(format!("one actor too many: `actors` says {actors}")));
         }
-        in_turn(&mut line, next, "the actor")?;
+        in_turn(&mut line, next, "the actor's number")?;
         line.finish()
     }
 }
@@ -104,16 +110,16 @@ impl Built {
 fn numbered(line: &mut Line, own: usize) -> Result<(), Mistake> {
     let begins = |word: &str| word.starts_with(|c: char| c.is_ascii_digit());
     if line.peek().is_some_and(begins) {
-        in_turn(line, own, "the action")?;
+        in_turn(line, own, "the action's number")?;
         line.expect(":")?;
     }
     Ok(())
 }
 
-/// Passes a number that has to be `own`; `what` says what it counts.
-fn in_turn(line: &mut Line, own: usize, what: &str) -> Result<(), Mistake> {
-    let other = line.expected(&format!("{what}'s number in turn, {own}"));
-    let number = line.number(&format!("{what}'s number"), u32::MAX)?;
+/// Passes a number that has to be `own`; `what` says what it is.
+fn in_turn(line: &mut Line, own: usize, what: &'static str) -> Result<(), Mistake> {
+    let other = line.expected(&format!("{what} in turn, {own}"));
+    let number = line.number(Number::up_to(what, u64::MAX))?;
     match usize::try_from(number) {
         Ok(number) if number == own => Ok(()),
         _ => Err(other),

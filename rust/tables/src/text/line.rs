@@ -1,13 +1,12 @@
 //! A line taken apart: its words and signs with their columns, and reading them one by one.
 
-use super::number::number;
+use super::number::Number;
 use super::place::{Mistake, Place};
+use super::quote::quoted;
+use std::fmt::Display;
 
 /// The signs that are words of their own, wherever they stand.
 const SIGNS: [char; 4] = [':', '[', ']', ','];
-
-/// A word of more characters is not shown whole.
-const LONG: usize = 32;
 
 /// What of a line is still to be read.
 pub(super) struct Line<'a> {
@@ -21,7 +20,11 @@ pub(super) struct Line<'a> {
 impl<'a> Line<'a> {
     /// The line with this number. What follows a `#` is left out.
     pub(super) fn of(number: usize, text: &'a str) -> Self {
-        let text = text.split('#').next().unwrap_or_default();
+        Self::whole(number, text.split('#').next().unwrap_or_default())
+    }
+
+    /// The line with this number, in which `#` begins no comment.
+    pub(super) fn whole(number: usize, text: &'a str) -> Self {
         let mut words = Vec::new();
         let (mut column, mut rest) = (1, text);
         while let Some(first) = rest.chars().next() {
@@ -76,24 +79,33 @@ impl<'a> Line<'a> {
         }
     }
 
-    /// Passes a number up to `most`; `what` says what it is.
-    pub(super) fn number(&mut self, what: &str, most: u32) -> Result<u32, Mistake> {
-        let Some(found) = self.peek().and_then(number) else {
-            return Err(self.expected(what));
+    /// Passes a number.
+    pub(super) fn number<T>(&mut self, number: Number<T>) -> Result<T, Mistake>
+    where
+        T: TryFrom<u64> + Display,
+    {
+        let Some(word) = self.peek() else {
+            return Err(self.expected(number.what));
         };
-        let Some(fits) = u32::try_from(found).ok().filter(|&fits| fits <= most) else {
-            let word = quoted(self.peek().unwrap_or_default());
-            let words = format!("{word} is too large for {what}: at most {most} fits");
-            return Err(self.mistake(words));
-        };
+        let read = number.read(word).map_err(|words| self.mistake(words))?;
         self.words.pop();
-        Ok(fits)
+        Ok(read)
     }
 
-    /// Passes a number of one byte.
-    pub(super) fn byte(&mut self, what: &str) -> Result<u8, Mistake> {
-        let number = self.number(what, u8::MAX.into())?;
-        Ok(number as u8)
+    /// Passes numbers up to the sign `end`, where there is one, or the line's end; each is given with
+    /// its place. Between two of them stand spaces or a comma.
+    pub(super) fn numbers(
+        &mut self,
+        number: Number<u8>,
+        end: Option<&str>,
+    ) -> Result<Vec<(Place, u8)>, Mistake> {
+        let mut numbers = Vec::new();
+        let mut comma = false;
+        while comma || !(self.is_empty() || self.peek() == end) {
+            numbers.push((self.place(), self.number(number)?));
+            comma = self.pass(",");
+        }
+        Ok(numbers)
     }
 
     /// Nothing may be left.
@@ -124,30 +136,9 @@ fn ends_word(first: char, next: char) -> bool {
     first.is_whitespace() != next.is_whitespace() || SIGNS.contains(&next)
 }
 
-/// The word in quotes: its first characters, if it is long, and none that does not print.
-fn quoted(word: &str) -> String {
-    let mut shown: String = word
-        .chars()
-        .take(LONG)
-        .flat_map(char::escape_debug)
-        .collect();
-    if word.chars().nth(LONG).is_some() {
-        shown += "..";
-    }
-    format!("`{shown}`")
-}
-
 #[cfg(test)]
 mod tests {
-    use super::{Line, quoted};
-
-    #[test]
-    fn words_in_quotes() {
-        assert_eq!(quoted("s\u{e9}nd"), "`s\u{e9}nd`");
-        assert_eq!(quoted("\0\u{1b}[m"), "`\\0\\u{1b}[m`");
-        assert_eq!(quoted(&"9".repeat(32)), format!("`{}`", "9".repeat(32)));
-        assert_eq!(quoted(&"9".repeat(33)), format!("`{}..`", "9".repeat(32)));
-    }
+    use super::Line;
 
     #[test]
     fn words_and_columns() {

@@ -20,21 +20,26 @@
 //! actions. An action's line is its number within its actor and a colon, which may be left out; the
 //! [word](crate::Kind::word) of its kind; what its kind counts [first](crate::Kind::field); and
 //! the [rest](crate::Kind::rest), a list in brackets. Numbers are decimal, or hexadecimal after `0x`;
-//! those of a list are parted by spaces or commas. `#` begins a comment, and blank lines are free.
+//! between those of a list stand spaces or a comma. `#` begins a comment, and blank lines are free.
 //!
 //! What the text says need not be a table that the engine accepts: only what does not fit the bytes
 //! is a [`Mistake`].
 
 mod actions;
 mod build;
+mod decode;
 mod line;
 mod number;
 mod place;
+mod quote;
+mod schedule;
 mod show;
 #[cfg(test)]
 mod tests;
 
 pub use build::{Built, build};
-pub use number::number;
+pub use decode::{decode, looks_like_text};
+pub use number::{ACTION, ACTOR, Number};
 pub use place::{Mistake, Place};
+pub use schedule::schedule;
 pub use show::{show, show_action};

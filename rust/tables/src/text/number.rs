@@ -1,8 +1,57 @@
-//! Numbers in a text.
+//! Numbers in a text: how they are written, and what each is.
+
+use super::quote::quoted;
+use crate::layout::{CELLS, MOST, MOST_ACTIONS};
+use std::fmt::Display;
+
+/// A number that a text asks for. One that fits its bytes and is yet too large is the engine's to
+/// refuse.
+#[derive(Clone, Copy, Debug)]
+pub struct Number<T> {
+    /// What it is.
+    pub what: &'static str,
+    /// The most that it is in a table that the engine accepts.
+    pub most: T,
+}
+
+/// A cell.
+pub const CELL: Number<u8> = Number::up_to("a cell's number", CELLS - 1);
+/// A mailbox.
+pub const MAILBOX: Number<u8> = Number::up_to("a mailbox's number", MOST - 1);
+/// A mutex.
+pub const MUTEX: Number<u8> = Number::up_to("a mutex's number", MOST - 1);
+/// An actor.
+pub const ACTOR: Number<u8> = Number::up_to("an actor's number", MOST - 1);
+/// An action, within its actor.
+pub const ACTION: Number<u8> = Number::up_to("an action's number", MOST_ACTIONS as u8 - 1);
+/// A value for a cell.
+pub const VALUE: Number<u32> = Number::up_to("a value", u32::MAX);
+
+impl<T> Number<T> {
+    /// A number up to `most`; `what` says what it is.
+    pub const fn up_to(what: &'static str, most: T) -> Self {
+        Self { what, most }
+    }
+}
+
+impl<T: TryFrom<u64> + Display> Number<T> {
+    /// The number that `word` is; otherwise what is wrong with it.
+    pub fn read(&self, word: &str) -> Result<T, String> {
+        let Self { what, most } = self;
+        match number(word).map(T::try_from) {
+            None => Err(format!("expected {what}, found {}", quoted(word))),
+            Some(Err(_)) => Err(format!(
+                "{} is too large for {what}: at most {most}",
+                quoted(word)
+            )),
+            Some(Ok(fits)) => Ok(fits),
+        }
+    }
+}
 
 /// The number that `word` is, decimal or hexadecimal after `0x`; `None` where it is no number. One
 /// that is too large for 64 bits is the largest of them.
-pub fn number(word: &str) -> Option<u64> {
+fn number(word: &str) -> Option<u64> {
     let (digits, radix) = match word.strip_prefix("0x") {
         Some(digits) => (digits, 16),
         None => (word, 10),
@@ -18,7 +67,7 @@ pub fn number(word: &str) -> Option<u64> {
 
 #[cfg(test)]
 mod tests {
-    use super::number;
+    use super::{CELL, VALUE, number};
 
     #[test]
     fn decimal_and_hexadecimal() {
@@ -33,5 +82,17 @@ mod tests {
         for word in ["", "0x", "x", "-1", "+1", "1_0", "95h", "0x9g", "1.0"] {
             assert_eq!(number(word), None, "{word}");
         }
+    }
+
+    #[test]
+    fn what_fits_is_taken() {
+        assert_eq!(CELL.read("255"), Ok(255));
+        let words = "`256` is too large for a cell's number: at most 7";
+        assert_eq!(CELL.read("256"), Err(words.to_owned()));
+        let words = "expected a cell's number, found `x`";
+        assert_eq!(CELL.read("x"), Err(words.to_owned()));
+        assert_eq!(VALUE.read("0xFFFFFFFF"), Ok(u32::MAX));
+        let words = "`4294967296` is too large for a value: at most 4294967295";
+        assert_eq!(VALUE.read("4294967296"), Err(words.to_owned()));
     }
 }

@@ -125,7 +125,7 @@ fn mistakes_of_the_counts() {
     );
     assert_eq!(
         mistake("actors 1\n mailboxes 256"),
-        "2:12: `256` is too large for the number of mailboxes: at most 255 fits"
+        "2:12: `256` is too large for the number of mailboxes: at most 8"
     );
     assert_eq!(
         mistake("actors 1\nmailboxes 1\n"),
@@ -171,6 +171,10 @@ fn mistakes_of_an_action() {
         wrong("1: lock 0"),
         "1: expected the action's number in turn, 0, found `1`"
     );
+    assert_eq!(
+        wrong("4294967296: lock 0"),
+        "1: expected the action's number in turn, 0, found `4294967296`"
+    );
     assert_eq!(wrong("0 lock 0"), "3: expected `:`, found `lock`");
     assert_eq!(
         wrong("lock"),
@@ -186,11 +190,11 @@ fn mistakes_of_an_action() {
     );
     assert_eq!(
         wrong("add 0 256"),
-        "7: `256` is too large for a cell's number: at most 255 fits"
+        "7: `256` is too large for a cell's number: at most 7"
     );
     assert_eq!(
         wrong("set 0 4294967296"),
-        "7: `4294967296` is too large for a value: at most 4294967295 fits"
+        "7: `4294967296` is too large for a value: at most 4294967295"
     );
     assert_eq!(wrong("set 0 -1"), "7: expected a value, found `-1`");
     assert_eq!(
@@ -209,11 +213,19 @@ fn mistakes_of_a_list() {
     );
     assert_eq!(
         wrong("test 0 [0 1 2 3 4]"),
-        "17: expected `]` after 4 numbers, found `4`"
+        "17: a list has at most 4 numbers, this is one more"
     );
     assert_eq!(
         wrong("test 0 [0, 1"),
         "13: expected `]`, the line ends here"
+    );
+    assert_eq!(
+        wrong("test 0 [0,"),
+        "11: expected an action's number, the line ends here"
+    );
+    assert_eq!(
+        wrong("test 0 [0,,1]"),
+        "11: expected an action's number, found `,`"
     );
     assert_eq!(
         wrong("test 0 [0, ]"),
@@ -225,7 +237,7 @@ fn mistakes_of_a_list() {
     );
     assert_eq!(
         wrong("mutex-wait 0 [0x100]"),
-        "15: `0x100` is too large for a mutex's number: at most 255 fits"
+        "15: `0x100` is too large for a mutex's number: at most 7"
     );
     assert_eq!(
         wrong("wait 0 [0] 1"),
