@@ -81,6 +81,7 @@ soak: lib
 
 cli: $(LIB)
 	$(CARGO) build $(LOCKED) --release --quiet --package order-cli
+	@echo 'built $(ORDER:$(CURDIR)/%=%)'
 
 # The proved calls, as target/staticlib/liborder_ffi.a, and the listing program, as target/bin/turns; what the prover says is shown where it refuses.
 lib:
