@@ -1,5 +1,5 @@
 //! Over many tables: the text form gives the same bytes, what the command says of a pair of steps is
-//! what the engine's verdict is, and different schedules are told apart.
+//! what the engine's verdict is, different schedules are told apart, and so are different states.
 
 mod generate;
 
@@ -7,9 +7,10 @@ use generate::{Random, table};
 use order_cli::difference::{Pairs, difference};
 use order_cli::names::names;
 use order_cli::rule::rule;
+use order_cli::state::State;
 use order_cli::table::Table;
-use order_engine::{PairVerdict, StepName, check, pair, ready, same};
-use std::collections::HashSet;
+use order_engine::{PairVerdict, REPORT_ROOM, StepName, check, pair, ready, same};
+use std::collections::{HashMap, HashSet};
 use tables::action::{kind, list};
 use tables::layout::MOST_ACTIONS;
 use tables::text::{build, show};
@@ -113,24 +114,41 @@ fn walk(random: &mut Random, table: &[u8], most: usize) -> Vec<u8> {
     schedule
 }
 
+/// How many dependent pairs of steps two schedules run in opposite orders.
+fn opposed(table: &Table, first: &[StepName], second: &[StepName]) -> usize {
+    let place = |names: &[StepName], name| names.iter().position(|&one| one == name);
+    let common: Vec<StepName> = first
+        .iter()
+        .copied()
+        .filter(|&name| place(second, name).is_some())
+        .collect();
+    let mut count = 0;
+    for (index, &one) in common.iter().enumerate() {
+        for &other in &common[index + 1..] {
+            let dependent = pair(&table.bytes, other, one) == Ok(PairVerdict::Dependent);
+            count += usize::from(dependent && place(second, other) < place(second, one));
+        }
+    }
+    count
+}
+
 #[test]
 fn different_schedules_are_told_apart() {
     let mut random = Random::new(3);
-    let mut met = [0; 3];
+    let (mut met, mut several) = ([0; 3], 0);
     for _ in 0..2_000 {
         let table = Table::of(&table(&mut random).bytes()).expect("an accepted table");
         let [first, second] = [20, 20].map(|most| walk(&mut random, &table.bytes, most));
-        let told = difference(&table, &first, &second, Pairs::First);
+        let told = difference(&table, &first, &second, Pairs::All);
         let [one, other] = [&first, &second].map(|schedule| {
             let names = names(&table.bytes, schedule);
-            assert!(
-                names
-                    .iter()
-                    .map(|name| name.actor)
-                    .eq(schedule.iter().copied())
-            );
-            HashSet::<StepName>::from_iter(names)
+            assert!(names.iter().map(|name| &name.actor).eq(schedule));
+            names
         });
+        let pairs = opposed(&table, &one, &other);
+        assert_eq!(told.matches(", case ").count(), pairs, "{told}");
+        several += usize::from(pairs > 1);
+        let [one, other] = [one, other].map(HashSet::<StepName>::from_iter);
         let is_same = same(&table.bytes, &first, &second).expect("both are accepted");
         if is_same.is_same() {
             assert_eq!(told, "");
@@ -145,4 +163,31 @@ fn different_schedules_are_told_apart() {
         assert_eq!(told.contains("The first has"), first.len() != second.len());
     }
     assert!(met.iter().all(|&times| times > 100), "{met:?}");
+    assert!(several > 100, "{several}");
+}
+
+#[test]
+fn different_states_have_different_words() {
+    let mut random = Random::new(4);
+    let (mut alike, mut by_pairs) = (0, 0);
+    for _ in 0..300 {
+        let table = Table::of(&table(&mut random).bytes()).expect("an accepted table");
+        let mut reports = HashMap::new();
+        let mut others = HashMap::new();
+        for _ in 0..20 {
+            let schedule = walk(&mut random, &table.bytes, 256);
+            let mut buffer = [0; REPORT_ROOM];
+            let state = State::after(&table, &schedule, &mut buffer).expect("an accepted one");
+            let (words, report) = (state.words(), state.report.bytes().to_vec());
+            let lines = words.lines().filter(|line| !line.contains("Receive met"));
+            let without = others.entry(lines.collect::<String>());
+            by_pairs += usize::from(*without.or_insert_with(|| report.clone()) != report);
+            alike += usize::from(reports.contains_key(&words));
+            assert_eq!(
+                *reports.entry(words).or_insert_with(|| report.clone()),
+                report
+            );
+        }
+    }
+    assert!(alike > 100 && by_pairs > 0, "{alike} {by_pairs}");
 }
