@@ -65,7 +65,7 @@ fn opposed(table: &Table, first: &[StepName], second: &[StepName], pairs: Pairs)
         They are dependent, {rule}.\n"
     );
     let others = all.map(|(i, j)| dependent(table, first[i], first[j]));
-    text + &more(others.collect(), pairs)
+    text + &more(&others.collect::<Vec<_>>(), pairs)
 }
 
 /// Two dependent steps in words, and why they are dependent.
@@ -76,25 +76,23 @@ fn dependent(table: &Table, one: StepName, other: StepName) -> (String, String) 
 }
 
 /// What is said of the dependent pairs after the first.
-fn more(others: Vec<(String, String)>, pairs: Pairs) -> String {
-    let number = match others.len() {
-        0 => return String::new(),
-        1 => "1 more dependent pair runs".to_owned(),
-        several => format!("{several} more dependent pairs run"),
-    };
-    let mut text = format!("and {number} in opposite orders");
+fn more(others: &[(String, String)], pairs: Pairs) -> String {
+    if others.is_empty() {
+        return String::new();
+    }
+    let (one, several) = ("more dependent pair runs", "more dependent pairs run");
+    let text = format!(
+        "and {} in opposite orders",
+        count(others.len(), one, several)
+    );
     match pairs {
-        Pairs::First => text += "\n",
+        Pairs::First => text + "\n",
         Pairs::All => {
-            text += ":\n";
-            text.extend(
-                others
-                    .iter()
-                    .map(|(both, rule)| format!("  {both}, {rule}\n")),
-            );
+            let others = others.iter();
+            let lines = others.map(|(both, rule)| format!("  {both}, {rule}\n"));
+            text + ":\n" + &lines.collect::<String>()
         }
     }
-    text
 }
 
 /// The pairs of entries of the first schedule that are dependent and that the second schedule runs in

@@ -77,16 +77,13 @@ impl<'a> State<'a> {
 
     /// The ready answer's mask, and whose bits are set in it.
     pub fn mask(&self) -> String {
-        let actors = match self.ready.count {
-            0 => "no actor",
-            1 => "actor ",
-            _ => "actors ",
-        };
-        format!(
-            "mask {}: {actors}{}",
-            self.ready.mask,
-            joined(self.ready.actors())
-        )
+        let Ready { mask, count, .. } = self.ready;
+        let actors = joined(self.ready.actors());
+        match count {
+            0 => format!("mask {mask}: no actor"),
+            1 => format!("mask {mask}: actor {actors}"),
+            _ => format!("mask {mask}: actors {actors}"),
+        }
     }
 
     /// Where the actor stands, and its cells.

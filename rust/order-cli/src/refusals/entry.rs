@@ -18,8 +18,7 @@ pub(super) fn words(table: &Table, schedule: &Schedule, index: usize) -> String 
     let why = match state.report.actors().nth(actor.into()) {
         None => {
             let actors = count(table.layout.scripts.len(), "actor", "actors");
-            let hint = character(schedule, actor);
-            format!("the table has {actors}, numbered from 0{hint}")
+            format!("the table has {actors}, numbered from 0")
         }
         Some(found) => match state.status(&found) {
             Status::Finished => {
@@ -32,10 +31,11 @@ pub(super) fn words(table: &Table, schedule: &Schedule, index: usize) -> String 
             }
         },
     };
-    format!("entry {index} says actor {actor}, but {why}\n")
+    let hint = character(schedule, actor);
+    format!("entry {index} says actor {actor}, but {why}\n{hint}")
 }
 
-/// A line for the entry of a file that was written as a text.
+/// A line for an entry that comes from a file written as a text. It is larger than any actor.
 fn character(schedule: &Schedule, entry: u8) -> String {
     let name = match entry {
         b'\n' => "a line feed".to_owned(),
@@ -46,7 +46,7 @@ fn character(schedule: &Schedule, entry: u8) -> String {
     };
     match schedule.is_file() {
         true => format!(
-            "\n{entry} is {name}: a schedule file has a byte for each entry; --text takes a text"
+            "{entry} is {name}: a schedule file has a byte for each entry; --text takes a text\n"
         ),
         false => String::new(),
     }
