@@ -1,4 +1,4 @@
-//! The order engine of document 01 in plain Rust, written from that document alone.
+//! The order engine of document 01 in plain Rust, written from that document.
 //!
 //! It exists to be compared with the proved engine, in answers and in speed. Each module holds one
 //! part of the document:
@@ -23,13 +23,17 @@
 //!
 //! # What it shares with the proved engine
 //!
-//! No code and no table of numbers. The numbers of the kinds are those of the crate `tables`, which
-//! also writes the tables that both are given. Some ideas are the same: a mailbox is one queue whose
-//! names are never moved, a mutex's queue is an array and a length, and the route pulls each entry to
-//! its place in turn. What is decided by another way: the reader's forms (masks over an action's
-//! bytes), dependence (the four cases as the document has them, without a table of codes), and the
-//! same verdict (normal forms; on short schedules also a search through all chains). [`quick`], which
-//! is measured and not compared, works as the proved engine does.
+//! Its writers: a sentence of the document that they misread may be misread in both. No code and no
+//! table of numbers; but the numbers of the kinds are those of the crate `tables`, which also writes
+//! the tables that both are given.
+//!
+//! Stepping follows the same sentences in much the same way: names in a mailbox are written one after
+//! the other and never moved, a mutex's queue is an array and a length, a test goes through its list.
+//! The route pulls each entry to its place in turn, as the proved one does. Decided by another way:
+//! the reader's forms (masks over an action's bytes), dependence (the four cases as the document has
+//! them, without a table of codes), and the same verdict (normal forms; on short schedules also a
+//! search through all chains). [`quick`], which is measured and not compared, works as the proved
+//! engine does.
 
 #![forbid(unsafe_code)]
 
