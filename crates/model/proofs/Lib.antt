@@ -7,6 +7,8 @@
 -- `Reached`: what holds of every state that an accepted schedule reaches, from any start that has it;
 -- `ReportBound`: no report passes the table's bound, nor 2,912 bytes;
 -- `Determined`: two states are equal when their reports are;
+-- `PageShape`: every line of a page has 101 characters, and no page passes 816 bytes;
+-- `SamePages`: exchanged schedules have the same page;
 -- `Routes`: the route call's promise can be kept;
 -- `Beginnings`: a listing goes by the beginnings of its files alone.
 pub mod Upd
@@ -40,11 +42,15 @@ pub mod SameReports
 pub mod SameStates
 pub mod Determined
 pub mod Decimal
+pub mod Columns
+pub mod PageShape
+pub mod SamePages
 pub mod TableBeginning
 pub mod Beginnings
 pub mod Cases
 pub mod Examples
 pub mod Reports
 pub mod Corners
+pub mod Pages
 pub mod Listings
 pub mod Forecourt

@@ -1,26 +1,28 @@
--- A refused run leaves the lent bytes as they were.
+-- A refused call leaves the lent bytes as they were.
 -- Assumes nothing.
 use Prim.Native.Nat.{ℕ}
 use mathlib.Core.Path.{_≡_, refl}
 use mathlib.Core.List.{List}
 use native.Mathlib.Omega.{arith}
-use lib.ListN.{length}
 use Rattle.table.specs.Outcome.{Outcome, accepted, refused}
 use Rattle.model.specs.Report.{report}
 use Rattle.model.specs.Schedule.{endState}
-use Rattle.model.specs.Calls.{gives, refuses, answer, lentAfter, runChecks, runOf}
-use Rattle.model.specs.Refusals.{RefusalKeeps}
+use Rattle.model.specs.Calls.{gives, refuses, fills, runChecks, runOf}
+use Rattle.model.specs.Page.{page, pageChecks, pageOf}
+use Rattle.model.specs.Refusals.{RefusalsKeep}
 
 given-not : {n : ℕ} {number position : ℕ} {A : Type 0} → gives n ≡ refuses number position → A
 given-not e = let z : _≡_ {A = ℕ} 0 1 = cc in absurd (omega arith)
 
-keeps : (o : Outcome) (n : ℕ) (written buffer : List ℕ) (number position : ℕ) → answer o n ≡ refuses number position
-    → lentAfter o written buffer ≡ buffer
-keeps accepted n written buffer number position e = given-not e
-keeps (refused m p) n written buffer number position e = refl
+keeps : (o : Outcome) (written buffer : List ℕ) (number position : ℕ) → fills o written buffer .result ≡ refuses number position
+    → fills o written buffer .lent ≡ buffer
+keeps accepted written buffer number position e = given-not e
+keeps (refused m p) written buffer number position e = refl
 
-pub refusal-keeps : RefusalKeeps
-unfolding runOf
-refusal-keeps table schedule buffer number position =
-    let written : List ℕ = report table (endState table schedule) in
-    keeps (runChecks table schedule buffer) (length written) written buffer number position
+pub refusals-keep : (table schedule : List ℕ) → RefusalsKeep table schedule
+unfolding runOf pageOf
+refusals-keep table schedule =
+    record {
+      run = λ buffer. keeps (runChecks table schedule buffer) (report table (endState table schedule)) buffer;
+      page = λ buffer. keeps (pageChecks table schedule buffer) (page table (endState table schedule)) buffer;
+    }

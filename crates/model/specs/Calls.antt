@@ -26,33 +26,33 @@ abbrev pub answer : {A : Type 0} → Outcome → A → Result A
 answer accepted a = gives a
 answer (refused number position) a = refuses number position
 
+-- what a call that writes into lent bytes leaves: its result, the number of bytes written; and the lent bytes
+pub record Filled : Type 0 where
+  pub result : Result ℕ
+  pub lent : List ℕ
+
+-- what is written in front, and the lent bytes after it as they were; a refusal changes nothing
+abbrev pub lentAfter : Outcome → List ℕ → List ℕ → List ℕ
+lentAfter accepted written buffer = written ++ drop (length written) buffer
+lentAfter (refused number position) written buffer = buffer
+
+abbrev pub fills : Outcome → (written buffer : List ℕ) → Filled
+fills checks written buffer = record { result = answer checks (length written); lent = lentAfter checks written buffer }
+
 -- ---- run
 
 -- refusal 10: a report buffer must have this many bytes, which no report passes
 abbrev pub reportRoom : ℕ
 reportRoom = 2912
 
--- what a run leaves: its result, the report's length; and the lent bytes
-pub record Ran : Type 0 where
-  pub result : Result ℕ
-  pub lent : List ℕ
-
--- the report in front, and the lent bytes after it as they were; a refusal changes nothing
-abbrev pub lentAfter : Outcome → List ℕ → List ℕ → List ℕ
-lentAfter accepted written buffer = written ++ drop (length written) buffer
-lentAfter (refused number position) written buffer = buffer
-
 -- 10, then 1 to 9, then 11 to 13
 abbrev pub runChecks : List ℕ → List ℕ → List ℕ → Outcome
 runChecks table schedule buffer =
     demand (leb reportRoom (length buffer)) 10 0 ⨾ readOf table ⨾ checkSchedule firstNumbers table schedule
 
-unfoldable pub runOf : (table schedule buffer : List ℕ) → Ran
-runOf table schedule buffer =
-    record {
-      result = answer (runChecks table schedule buffer) (length (report table (endState table schedule)));
-      lent = lentAfter (runChecks table schedule buffer) (report table (endState table schedule)) buffer;
-    }
+-- the report's length, and the lent bytes with the report in front
+unfoldable pub runOf : (table schedule buffer : List ℕ) → Filled
+runOf table schedule buffer = fills (runChecks table schedule buffer) (report table (endState table schedule)) buffer
 
 -- ---- ready
 

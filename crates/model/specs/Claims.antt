@@ -1,9 +1,10 @@
 -- Questions about the model at given inputs, with answers that compute: the form of document 01's marked cases and of our own examples.
 -- Assumes nothing: these are definitions.
 use Prim.Native.Nat.{ℕ}
+use Prim.Native.String.{String}
 use mathlib.Core.Path.{_≡_}
 use mathlib.Core.Bool.{Bool, true, false, _&&_, cond}
-use mathlib.Core.List.{List, [], _∷_, map}
+use mathlib.Core.List.{List, [], _∷_, _++_, map}
 use lib.Dec.{eqb}
 use lib.ListN.{getD, replicate, take}
 use Rattle.table.specs.Outcome.{Outcome}
@@ -15,8 +16,10 @@ use Rattle.model.specs.Site.{initial}
 use Rattle.model.specs.Ready.{ReadyAnswer}
 use Rattle.model.specs.Report.{report}
 use Rattle.model.specs.Schedule.{machine, endState}
-use Rattle.model.specs.Calls.{Result, gives, refuses, reportRoom, Ran, runOf, readyOf, PairVerdict, pairOf, SameVerdict, sameOf}
+use Rattle.model.specs.Calls.{Result, gives, refuses, Filled, reportRoom, runOf, readyOf, PairVerdict, pairOf, SameVerdict, sameOf}
 use Rattle.model.specs.Route.{routeChecks}
+use Rattle.model.specs.Text.{ascii, line}
+use Rattle.model.specs.Page.{pageRoom, pageOf}
 
 -- two lists of numbers are equal
 abbrev pub eqList : List ℕ → List ℕ → Bool
@@ -41,10 +44,18 @@ compareEnds table first second =
     (cond (eqList (report table (endState table first)) (report table (endState table second))) alike apart)
     unaccepted
 
--- the report that a run leaves: of the lent bytes, as many from the first on as the run answers; none after a refusal
-abbrev pub reportLeft : Result ℕ → (lent : List ℕ) → List ℕ
-reportLeft (gives n) lent = take n lent
-reportLeft (refuses number position) lent = []
+-- what a call has written: of the lent bytes, as many from the first on as it answers; nothing after a refusal
+abbrev pub front : Result ℕ → (lent : List ℕ) → List ℕ
+front (gives n) lent = take n lent
+front (refuses number position) lent = []
+
+abbrev pub writtenBy : Filled → List ℕ
+writtenBy f = front (f .result) (f .lent)
+
+-- quoted lines as bytes, each with its line feed
+abbrev pub lines : List String → List ℕ
+lines [] = []
+lines (l ∷ rest) = line (ascii l) ++ lines rest
 
 pub data Question : Type 0 where
   -- what reading the table gives
@@ -54,6 +65,9 @@ pub data Question : Type 0 where
   runIn : (room : ℕ) (table schedule : List ℕ) → Question
   bytes : (table schedule : List ℕ) → Question
   cell : (table schedule : List ℕ) (actor number : ℕ) → Question
+  -- the result of the page call with a buffer of so many zeros; the page that it leaves in 816 zeros
+  pageIn : (room : ℕ) (table schedule : List ℕ) → Question
+  page : (table schedule : List ℕ) → Question
   -- the results of ready, pair and same
   ready : (table schedule : List ℕ) → Question
   pair : (table : List ℕ) (x y : Name) → Question
@@ -83,10 +97,10 @@ pub data Answer : Type 0 where
 abbrev pub ask : Question → Answer
 ask (read table) = outcome (readOf table)
 ask (runIn room table schedule) = ran (runOf table schedule (replicate room 0) .result)
-ask (bytes table schedule) =
-    let left : Ran = runOf table schedule (replicate reportRoom 0) in
-    written (reportLeft (left .result) (left .lent))
+ask (bytes table schedule) = written (writtenBy (runOf table schedule (replicate reportRoom 0)))
 ask (cell table schedule actor number) = holds (getD (endState table schedule .actor actor .cells) number 0)
+ask (pageIn room table schedule) = ran (pageOf table schedule (replicate room 0) .result)
+ask (page table schedule) = written (writtenBy (pageOf table schedule (replicate pageRoom 0)))
 ask (ready table schedule) = readied (readyOf table schedule)
 ask (pair table x y) = paired (pairOf table x y)
 ask (areSame table first second) = judged (sameOf table first second)

@@ -13,6 +13,8 @@ pub mod Report
 pub mod Schedule
 pub mod Calls
 pub mod Route
+pub mod Text
+pub mod Page
 pub mod Listing
 pub mod FourCases
 pub mod ReadyMask
@@ -21,10 +23,12 @@ pub mod Refusals
 pub mod Bound
 pub mod Reached
 pub mod Determined
+pub mod PageShape
 pub mod Claims
 pub mod Cases
 pub mod Examples
 pub mod Reports
 pub mod Corners
+pub mod Pages
 pub mod Listings
 pub mod Forecourt

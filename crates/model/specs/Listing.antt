@@ -1,55 +1,30 @@
 -- The listing of a run, as bytes: a line per step, then the ending; a refused run has only the line of its refusal.
 -- Assumes nothing: these are definitions.
-use Prim.Native.Nat.{ℕ, zero, suc, _+_, _/_, _%_}
+use Prim.Native.Nat.{ℕ}
 use mathlib.Core.Path.{_≡_}
-use mathlib.Core.Bool.{cond}
 use mathlib.Core.List.{List, [], _∷_, _++_}
-use lib.Dec.{ltb}
 use lib.ListN.{take}
 use Rattle.table.specs.Outcome.{Outcome, accepted, refused}
 use Rattle.trace.specs.Machine.{Name}
 use Rattle.trace.specs.Schedule.{names}
 use Rattle.model.specs.Site.{initial}
 use Rattle.model.specs.Ready.{Ending, finished, stuck, going, ending}
+use Rattle.model.specs.Text.{ascii, decimal, space, line}
 use Rattle.model.specs.Schedule.{machine, endState}
 use Rattle.model.specs.Calls.{readyChecks}
 
--- ---- text, by its ASCII codes
+-- ---- the words
 
--- the digit of a number below 10
-abbrev pub digit : ℕ → ℕ
-digit n = 48 + n
-
--- a number in decimal, without leading zeros, by at most so many digits
-abbrev pub digits : ℕ → ℕ → List ℕ
-digits zero n = []
-digits (suc most) n = cond (ltb n 10) (digit n ∷ []) (digits most (n / 10) ++ (digit (n % 10) ∷ []))
-
--- a number in decimal: n has at most n + 1 digits
-abbrev pub decimal : ℕ → List ℕ
-decimal n = digits (suc n) n
-
-abbrev pub space : ℕ
-space = 32
-
--- "Each line ends in a line feed"
-abbrev pub line : List ℕ → List ℕ
-line text = text ++ (10 ∷ [])
-
--- the ending's word
 abbrev pub endingWord : Ending → List ℕ
-endingWord finished = 102 ∷ 105 ∷ 110 ∷ 105 ∷ 115 ∷ 104 ∷ 101 ∷ 100 ∷ []
-endingWord stuck = 115 ∷ 116 ∷ 117 ∷ 99 ∷ 107 ∷ []
-endingWord going = 103 ∷ 111 ∷ 105 ∷ 110 ∷ 103 ∷ []
+endingWord finished = ascii "finished"
+endingWord stuck = ascii "stuck"
+endingWord going = ascii "going"
 
--- `end ` and the ending
 abbrev pub endText : Ending → List ℕ
-endText e = 101 ∷ 110 ∷ 100 ∷ space ∷ endingWord e
+endText e = ascii "end " ++ endingWord e
 
--- `refused `, then ` at ` between number and position
 abbrev pub refusedText : (number position : ℕ) → List ℕ
-refusedText number position =
-    (114 ∷ 101 ∷ 102 ∷ 117 ∷ 115 ∷ 101 ∷ 100 ∷ space ∷ decimal number) ++ (space ∷ 97 ∷ 116 ∷ space ∷ decimal position)
+refusedText number position = (ascii "refused " ++ decimal number) ++ (ascii " at " ++ decimal position)
 
 -- a step's actor and action with a space between
 abbrev pub stepText : Name → List ℕ
