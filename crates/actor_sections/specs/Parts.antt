@@ -1,6 +1,6 @@
 -- What the writers of actors and actions promise.
 -- Assumes nothing: these are definitions.
-use Prim.Native.Nat.{ℕ, _<_}
+use Prim.Native.Nat.{ℕ}
 use mathlib.Core.List.{List}
 use Rattle.table.specs.Format.{countOf}
 use Rattle.model.specs.Site.{name}
@@ -17,7 +17,3 @@ ownBytes comms actor n = parts (λ k. commBytes (commsOf comms (name actor k))) 
 
 abbrev pub actionsBytes : (table comms : List ℕ) → ℕ → List ℕ
 actionsBytes table comms n = parts (λ a. ownBytes comms a (countOf table a)) n 0
-
--- each actor's position fits a byte
-abbrev pub Positions : List Actor → Type 0
-Positions actors = (a : ℕ) → recordsOf actors a .position < 256

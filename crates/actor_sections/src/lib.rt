@@ -5,9 +5,9 @@ ghost use Prim.Native.Nat.{ℕ, _<_, _≤_, _^_};
 ghost use lib.ListN.{length, getD};
 ghost use Rattle.table.specs.Format.{countOf};
 ghost use Rattle.model.specs.Report.{long, parts, actorBytes, commBytes};
-ghost use Rattle.state.specs.State.{recordOf, commOf, CommsRoom};
+ghost use Rattle.state.specs.State.{recordOf, commOf, CommsRoom, Positions};
 ghost use Rattle.writing.specs.Written.{Wrote};
-ghost use Rattle.actor_sections.specs.Parts.{actorsBytes, ownBytes, actionsBytes, Positions};
+ghost use Rattle.actor_sections.specs.Parts.{actorsBytes, ownBytes, actionsBytes};
 use state::Actor;
 use table::access;
 

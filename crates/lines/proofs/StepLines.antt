@@ -7,7 +7,8 @@ use native.Mathlib.Numerals.{add-one}
 use native.Mathlib.Omega.{arith}
 use lib.ListN.{length, getD, take}
 use lib.Seq.{take-suc}
-use Rattle.model.specs.Listing.{line, stepText, stepLines}
+use Rattle.model.specs.Text.{line}
+use Rattle.model.specs.Listing.{stepText, stepLines}
 use Rattle.names.specs.InByte.{nameOf}
 use Rattle.writing.specs.Written.{Wrote}
 use Rattle.writing.proofs.Written.{rest, joined, written-length, wrote-then}

@@ -5,12 +5,12 @@ use mathlib.Core.List.{List, [], _∷_, _++_, append-assoc}
 use Prim.Native.Nat.{ℕ, _+_, _/_, _%_, _^_, _<_, _≤_}
 use native.Mathlib.Omega.{arith}
 use lib.ListN.{length, length-append}
-use Rattle.model.specs.Listing.{decimal, line, space, refusedText, stepText}
-use Rattle.model.proofs.Decimal.{decimal-most}
+use Rattle.model.specs.Text.{ascii, decimal, space, line}
+use Rattle.model.specs.Listing.{refusedText, stepText}
+use Rattle.model.proofs.Decimal.{decimal-most, ten-digits}
 use Rattle.names.specs.InByte.{nameOf}
 use Rattle.writing.specs.Written.{Wrote}
 use Rattle.writing.proofs.Written.{rest, joined, wrote-then}
-use Rattle.text.proofs.Digits.{word-length}
 
 -- actors and actions
 pub actor-length : (x : ℕ) → x < 256 → length (decimal (x / 32)) ≤ 1
@@ -26,16 +26,16 @@ line-parts : (s t : List ℕ) → s ++ line t ≡ line (s ++ t)
 line-parts s t = sym (append-assoc s t (10 ∷ []))
 
 abbrev pub refusedLabel : List ℕ
-refusedLabel = 114 ∷ 101 ∷ 102 ∷ 117 ∷ 115 ∷ 101 ∷ 100 ∷ space ∷ []
+refusedLabel = ascii "refused "
 
 abbrev atLabel : List ℕ
-atLabel = space ∷ 97 ∷ 116 ∷ space ∷ []
+atLabel = ascii " at "
 
 pub label-length : (x : ℕ) → x < 2 ^ 32 → length (refusedLabel ++ decimal x) ≤ 18
-label-length x h = omega (arith, word-length x h)
+label-length x h = omega (arith, ten-digits x h)
 
 pub position-length : (x : ℕ) → x < 2 ^ 32 → length (line (atLabel ++ decimal x)) ≤ 15
-position-length x h = omega (arith, length-append (atLabel ++ decimal x) (10 ∷ []), word-length x h)
+position-length x h = omega (arith, length-append (atLabel ++ decimal x) (10 ∷ []), ten-digits x h)
 
 pub wrote-refused : (e b p : List ℕ) (number position at n : ℕ) → number < 2 ^ 32 → position < 2 ^ 32
     → Wrote e (refusedLabel ++ decimal number) b at → Wrote (rest at b) (line (atLabel ++ decimal position)) p n

@@ -2,7 +2,8 @@
 ghost use mathlib.Core.List.{_++_};
 ghost use Prim.Native.Nat.{_*_, _≤_, _/_, _%_};
 ghost use lib.ListN.{length};
-ghost use Rattle.model.specs.Listing.{line, endText, refusedText, stepText};
+ghost use Rattle.model.specs.Text.{line};
+ghost use Rattle.model.specs.Listing.{endText, refusedText, stepText};
 ghost use Rattle.names.specs.InByte.{nameOf};
 ghost use Rattle.answers.specs.Answers.{endingAs};
 ghost use Rattle.writing.specs.Written.{Wrote};

@@ -15,7 +15,8 @@ use Rattle.model.specs.Site.{initial}
 use Rattle.model.specs.Ready.{Ending, ReadyAnswer, readyAnswer, ending}
 use Rattle.model.specs.Schedule.{machine, endState}
 use Rattle.model.specs.Calls.{readyChecks}
-use Rattle.model.specs.Listing.{line, endText, refusedText, stepLines, runLines, linesOf, listingOf, tableRead, scheduleRead}
+use Rattle.model.specs.Text.{line}
+use Rattle.model.specs.Listing.{endText, refusedText, stepLines, runLines, linesOf, listingOf, tableRead, scheduleRead}
 use Rattle.model.proofs.Beginnings.{beginnings-decide}
 use Rattle.names.specs.InByte.{nameOf}
 use Rattle.play.specs.Parts.{Ended}

@@ -37,6 +37,7 @@ pub mod ReportBoundSteps
 pub mod ReportBoundCells
 pub mod ReportBoundValues
 pub mod ReportBound
+pub mod Parts
 pub mod ReportSplit
 pub mod SameReports
 pub mod SameStates

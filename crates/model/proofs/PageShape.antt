@@ -1,6 +1,6 @@
 -- The shape of a page: each number fits its columns, so each line has 101 characters, and the page 102 bytes an actor.
 -- Assumes nothing.
-use Prim.Native.Nat.{ℕ, zero, suc, _+_, _*_, _<_, _≤_}
+use Prim.Native.Nat.{ℕ, suc, _+_, _*_, _<_, _≤_}
 use native.Mathlib.Omega.{arith}
 use mathlib.Core.Path.{_≡_, refl, _∙_, ap}
 use mathlib.Core.Bool.{true}
@@ -10,8 +10,6 @@ use Rattle.table.specs.Format.{actorsOf, countOf}
 use Rattle.table.specs.Promise.{WellFormed}
 use Rattle.table.proofs.Promise.{promised}
 use Rattle.model.specs.Site.{Actor, Site}
-use Rattle.model.specs.Report.{parts}
-use Rattle.model.specs.Bound.{total}
 use Rattle.model.specs.Schedule.{endState}
 use Rattle.model.specs.Text.{decimal, space, left, right, line}
 use Rattle.model.specs.Page.{Status, ready, waits, finished, statusOf, statusWord, cellsText, actorText, page}
@@ -20,19 +18,13 @@ use Rattle.model.specs.Determined.{Bytes}
 use Rattle.model.specs.Demand3.{Accepted}
 use Rattle.model.proofs.Decimal.{decimal-small, decimal-most, ten-digits}
 use Rattle.model.proofs.Columns.{length-right, length-left, printed-append, printed-decimal, printed-right, printed-left, printed-parts, no-feed}
-use Rattle.model.proofs.ReportBoundCounts.{length-parts}
+use Rattle.model.proofs.Parts.{equal-parts}
 use Rattle.model.proofs.ReportBoundValues.{SmallCells, SmallSite, small-end}
 use Rattle.model.proofs.Reached.{reached-end}
 
--- parts of one length
-pub equal-parts : (f : ℕ → List ℕ) (m n k : ℕ) → ((j : ℕ) → k ≤ j → j < k + n → length (f j) ≡ m) → length (parts f n k) ≡ m * n
-equal-parts f m zero k h = omega arith
-equal-parts f m (suc n) k h =
-    omega (arith, length-append (f k) (parts f n (suc k)), h k (omega arith) (omega arith), equal-parts f m n (suc k) (λ j a b. h j (omega arith) (omega arith)))
-
 -- ---- an actor's line
 
-word-long : (status : Status) → length (left 8 (statusWord status)) ≡ 8
+pub word-long : (status : Status) → length (left 8 (statusWord status)) ≡ 8
 word-long ready = refl
 word-long waits = refl
 word-long finished = refl

@@ -1,7 +1,7 @@
 -- Two states with equal reports agree in all that the table names, and the other way round. The first holds of any two states that are as reached,
 -- whose records have eight cells, and whose cells and values are below 2^32; the second of any two.
 -- Assumes nothing.
-use Prim.Native.Nat.{ℕ, zero, suc, _+_, _≤_, _<_}
+use Prim.Native.Nat.{ℕ, _+_, _≤_, _<_}
 use native.Mathlib.Omega.{arith}
 use mathlib.Core.Path.{_≡_, refl, sym, _∙_, ap}
 use mathlib.Core.Logic.{_⊎_, inl, inr}
@@ -23,6 +23,7 @@ use Rattle.model.proofs.ReportBoundCells.{EightCells}
 use Rattle.model.proofs.ReportBoundValues.{SmallSite}
 use Rattle.model.proofs.ReportBoundLengths.{portOf}
 use Rattle.model.proofs.ReportBound.{box-room}
+use Rattle.model.proofs.Parts.{parts-same}
 use Rattle.model.proofs.ReportSplit.{parts-split, actor-split, comm-split, box-split, mutex-split}
 
 -- ---- the two sides of a mailbox from its one queue
@@ -130,11 +131,6 @@ module _ (table : List ℕ) (ok : WellFormed table) (s t : Site) (i : Lossless t
       }
 
 -- ---- states that agree
-
-parts-same : (f g : ℕ → List ℕ) (n k : ℕ) → ((j : ℕ) → k ≤ j → j < k + n → f j ≡ g j) → parts f n k ≡ parts g n k
-parts-same f g zero k h = refl
-parts-same f g (suc n) k h =
-    λ i. h k (omega arith) (omega arith) i ++ parts-same f g n (suc k) (λ j a b. h j (omega arith) (omega arith)) i
 
 module _ (table : List ℕ) (s t : Site) (same : SameSite table s t) where
   pub report-same : report table s ≡ report table t

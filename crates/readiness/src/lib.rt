@@ -65,7 +65,7 @@ fn ready_mask(
 }
 
 // Whether an actor is ready: not finished, and it need not wait.
-fn is_ready(table: &[u8], a: usize, r: Actor, comms: &[u64; 256], queues: &[u8; 72]) -> bool
+pub fn is_ready(table: &[u8], a: usize, r: Actor, comms: &[u64; 256], queues: &[u8; 72]) -> bool
     requires { ⌜ Looked (now table) a (now comms) (now queues) ⌝ }
     ensures { λ b. ⌜ ((log ends : List ℕ) → b
         ≡ looksReady (now (table .entry)) a r (now (comms .entry)) (now (queues .entry)) log ends) ⌝ }

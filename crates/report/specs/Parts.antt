@@ -6,8 +6,7 @@ use lib.ListN.{length}
 use Rattle.table.specs.Promise.{WellFormed}
 use Rattle.model.specs.Report.{report}
 use Rattle.state.specs.declared.Actor.{Actor}
-use Rattle.state.specs.State.{siteOf, MailRoom, QueueRoom}
-use Rattle.actor_sections.specs.Parts.{Positions}
+use Rattle.state.specs.State.{siteOf, MailRoom, QueueRoom, Positions}
 
 -- an accepted table, a state in its arrays, and room for the report
 pub record Reportable (table : List ℕ) (actors : List Actor) (comms log ends queues buf : List ℕ) : Type 0 where

@@ -89,6 +89,10 @@ pub record QueueRoom (queues : List ℕ) : Type 0 where
   pub long : length queues ≡ 72
   pub bounded : (m : ℕ) → sizeIn queues m ≤ 8
 
+-- each actor's position fits a byte
+abbrev pub Positions : List Actor → Type 0
+Positions actors = (a : ℕ) → recordsOf actors a .position < 256
+
 -- ---- one actor's part
 
 -- an actor's record has its eight cells

@@ -2,7 +2,8 @@
 use Rattle.answers.specs.Answers.{endingAs}
 use Rattle.writing.specs.Written.{Wrote}
 use Rattle.answers.specs.declared.Ending.{Ending}
-use Rattle.model.specs.Listing.{line, endText}
+use Rattle.model.specs.Text.{line}
+use Rattle.model.specs.Listing.{endText}
 use borrow.Author.Needs.{needs}
 use mathlib.Core.Path.{subst, sym}
 use native.Mathlib.Omega.{arith}

@@ -1,7 +1,7 @@
 -- `lines::refused` meets its contract: `refused ` and the number, then ` at ` and the position. Assumes nothing.
 use Rattle.lines.proofs.Wordings.{refusedLabel, label-length, position-length, wrote-refused}
 use mathlib.Core.List.{_++_}
-use Rattle.model.specs.Listing.{decimal}
+use Rattle.model.specs.Text.{decimal}
 use Rattle.writing.proofs.Texts.{wrote-at, wrote-room}
 use borrow.Author.Needs.{needs}
 use native.Mathlib.Omega.{arith}

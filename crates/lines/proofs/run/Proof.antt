@@ -1,7 +1,8 @@
 -- `lines::run` meets its contract: the steps' lines, then the ending's. Assumes nothing.
 use native.Mathlib.Omega.{arith}
 use borrow.Author.Needs.{needs}
-use Rattle.model.specs.Listing.{line, endText}
+use Rattle.model.specs.Text.{line}
+use Rattle.model.specs.Listing.{endText}
 use Rattle.answers.specs.Answers.{endingAs}
 use Rattle.writing.proofs.Written.{wrote-then}
 use Rattle.lines.specs.FirstSteps.{firstSteps}

@@ -2,7 +2,7 @@
 use Prim.Native.Nat.{ℕ, _≤_}
 use Rattle.lines.proofs.Wordings.{actor-length, action-line, wrote-step}
 use Rattle.writing.proofs.Texts.{wrote-at, wrote-room}
-use Rattle.model.specs.Listing.{decimal, line, space}
+use Rattle.model.specs.Text.{decimal, line, space}
 use borrow.Author.Needs.{needs}
 use lib.ListN.{length}
 use mathlib.Core.List.{_∷_}

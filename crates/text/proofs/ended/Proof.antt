@@ -1,6 +1,6 @@
 -- `text::ended` meets its contract: the label and the number, then a line feed. Assumes nothing.
 use Rattle.writing.proofs.Texts.{wrote-store, wrote-below}
-use Rattle.model.specs.Listing.{decimal}
+use Rattle.model.specs.Text.{decimal}
 use borrow.Author.Needs.{needs}
 use lib.ListN.{length-append}
 use mathlib.Core.List.{[], _∷_, _++_}

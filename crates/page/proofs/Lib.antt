@@ -1,0 +1,2 @@
+-- The page over the engine's arrays.
+pub mod Laws

@@ -1,0 +1,2 @@
+-- What the page's writers promise.
+pub mod Parts
