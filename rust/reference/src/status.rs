@@ -15,6 +15,9 @@ pub enum Status {
 }
 
 impl Status {
+    /// All of them.
+    pub const ALL: [Self; 3] = [Self::Ready, Self::Waits, Self::Finished];
+
     /// How `actor` stands, whose actions are `script`.
     pub(crate) fn of(script: &[[u8; 8]], site: &Site, actor: usize) -> Self {
         let Some(&bytes) = script.get(site.actor(actor).position) else {

@@ -5,7 +5,7 @@ use crate::harness::call::{Call, no_sweep};
 use crate::harness::slots::{Buffer, Lent, SCHEDULE, Slots, TABLE};
 use crate::harness::tally::Tally;
 use crate::inputs::steps::Steps;
-use crate::workload::{Load, Measure, Work};
+use crate::workload::{Load, Measure};
 use reference::{Ending, Ready, Reason};
 use tables::Layout;
 
@@ -76,20 +76,17 @@ fn note(tally: &mut Tally, asked: &Asked) {
     });
 }
 
-/// Measures it on a load, three quarters of the way, where actors are left.
+/// Measures it on a load, three quarters of the way.
 pub fn measure(measure: &mut impl Measure, load: &Load) {
-    fn part(work: &Work) -> &[u8] {
-        &work.first[..work.first.len() / 4 * 3]
-    }
     measure.measure(
         CALL.name,
         load,
         |work| {
-            let answer = order_engine::ready(&work.table, part(work));
+            let answer = order_engine::ready(&work.table, work.part());
             answer.expect("accepted").mask as usize
         },
         |work| {
-            let answer = reference::ready(&work.table, part(work));
+            let answer = reference::ready(&work.table, work.part());
             answer.expect("accepted").mask as usize
         },
     );
