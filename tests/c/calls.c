@@ -30,6 +30,7 @@ int main(int count, char **arguments)
     }
     tables();
     stepping();
+    lines();
     verdicts();
     empty_slices();
     if (failures > 0) {
