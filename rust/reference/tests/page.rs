@@ -37,27 +37,27 @@ fn every_number_of_digits() {
     let mut script: Vec<Action> = (0..).zip(values).map(|(cell, n)| set(cell, n)).collect();
     script.extend([set(0, 123456789), set(1, 4294967295)]);
     let table = table(&[&script]);
-    let wanted = "\
-0  8 ready             1         12        123       1234      12345     123456    1234567   12345678
-";
-    assert_eq!(laid(&table, &[0; 8]), wanted);
-    let wanted = "\
-0 10 finished  123456789 4294967295        123       1234      12345     123456    1234567   12345678
-";
-    assert_eq!(laid(&table, &[0; 10]), wanted);
+    assert_eq!(
+        laid(&table, &[0; 8]),
+        "0  8 ready             1         12        123       1234      12345     123456    1234567   12345678\n"
+    );
+    assert_eq!(
+        laid(&table, &[0; 10]),
+        "0 10 finished  123456789 4294967295        123       1234      12345     123456    1234567   12345678\n"
+    );
 }
 
 #[test]
 fn the_last_position() {
     let table = table(&[&[set(7, 1_000_000_000); 32]]);
-    let wanted = "\
-0 31 ready             0          0          0          0          0          0          0 1000000000
-";
-    assert_eq!(laid(&table, &[0; 31]), wanted);
-    let wanted = "\
-0 32 finished          0          0          0          0          0          0          0 1000000000
-";
-    assert_eq!(laid(&table, &[0; 32]), wanted);
+    assert_eq!(
+        laid(&table, &[0; 31]),
+        "0 31 ready             0          0          0          0          0          0          0 1000000000\n"
+    );
+    assert_eq!(
+        laid(&table, &[0; 32]),
+        "0 32 finished          0          0          0          0          0          0          0 1000000000\n"
+    );
 }
 
 #[test]

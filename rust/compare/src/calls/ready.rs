@@ -20,10 +20,7 @@ pub const CALL: Call = Call {
     },
     refusals: &[&Reason::OF_TABLE, &Reason::OF_FIRST],
     cases: 220_000,
-    next: |rng, input| {
-        let Steps { table, schedule } = Steps::any(rng);
-        [input.read[0], input.read[1]] = [table, schedule];
-    },
+    next: |rng, input| input.read = Steps::any(rng).slices(),
     sweep: no_sweep,
     engine: |lent| order_engine::ready::fields(lent.read[0], lent.read[1]).into(),
     reference: |lent: Lent| {

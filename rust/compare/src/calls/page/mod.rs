@@ -22,13 +22,9 @@ pub const CALL: Call = Call {
     refusals: &[&[Reason::PageRoom], &Reason::OF_TABLE, &Reason::OF_FIRST],
     cases: 240_000,
     next: |rng, input| {
-        let Steps { table, schedule } = match rng.once_in(4) {
-            true => digits::steps(rng),
-            false => Steps::any(rng),
-        };
-        [input.read[0], input.read[1]] = [table, schedule];
-        let room = buffers::room(rng, PAGE_ROOM);
-        buffers::bytes(rng, &mut input.bytes, room);
+        let make = rng.pick(&[digits::steps, Steps::any, Steps::any, Steps::any]);
+        input.read = make(rng).slices();
+        buffers::bytes(rng, &mut input.bytes, PAGE_ROOM);
     },
     sweep: no_sweep,
     engine: |lent| order_engine::page::fields(lent.read[0], lent.read[1], lent.bytes).into(),

@@ -9,6 +9,7 @@ use reference::{PAGE_ROOM, Reason, page};
 /// Lengths that must have been lent.
 const LENT: [usize; 4] = [0, PAGE_ROOM - 1, PAGE_ROOM, PAGE_ROOM + 1];
 
+const MORE: &str = "over 817 bytes lent";
 const FITS: &str = "refused 20 where the page would fit";
 
 /// What must have been met, and how often.
@@ -17,7 +18,7 @@ pub fn demands(demands: Demands) -> Demands {
     let refused: Vec<String> = reasons.map(before).collect();
     demands
         .notes(&LENT.map(lent), 1_000)
-        .notes(&[FITS], 1_000)
+        .notes(&[MORE, FITS], 1_000)
         .notes(&refused, 20)
 }
 
@@ -34,6 +35,8 @@ pub fn note(tally: &mut Tally, asked: &Asked) {
     let length = asked.input.bytes.len();
     if LENT.contains(&length) {
         tally.note(&lent(length));
+    } else if length > PAGE_ROOM {
+        tally.note(MORE);
     }
     if asked.reference.refusal != Reason::PageRoom.number() {
         return;
