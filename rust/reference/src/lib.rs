@@ -17,7 +17,8 @@
 //! - [`trace`], [`mod@same`], [`mod@route`]: an accepted schedule's steps, the same verdict by normal
 //!   forms, and the exchange route;
 //! - [`search`] and [`mod@replay`]: the same verdict by searching all chains, and a route replayed;
-//! - [`quick`] and [`footprint`]: the same verdict and the route made for speed, to be measured.
+//! - [`quick`] and [`footprint`]: the page, the same verdict and the route made for speed, to be
+//!   measured.
 //!
 //! The stepping engine knows a table by [`Table`] alone, which only [`check`] makes. Stepping needs no
 //! heap; a step costs the same however long the schedule and the queues are.

@@ -14,16 +14,28 @@ pub const PAGE_ROOM: usize = 816;
 /// Lays out the state that a schedule leads to, and gives the page's length: refusal 20, then 1 to 9,
 /// then 11 to 13. A refusal writes nothing.
 pub fn page(table: &[u8], schedule: &[u8], buffer: &mut [u8]) -> Result<usize, Refusal> {
-    let lent = buffer.len();
-    if lent < PAGE_ROOM {
+    laid(table, schedule, buffer, |table, site, mut rest| {
+        let lent = rest.len();
+        lines(table, site, &mut rest).expect("there is room for eight lines");
+        lent - rest.len()
+    })
+}
+
+/// What `lay` gives for the state that a schedule leads to, or the refusal.
+#[inline(always)]
+pub(crate) fn laid(
+    table: &[u8],
+    schedule: &[u8],
+    buffer: &mut [u8],
+    lay: impl FnOnce(&Table, &Site, &mut [u8]) -> usize,
+) -> Result<usize, Refusal> {
+    if buffer.len() < PAGE_ROOM {
         return Err(Refusal::new(Reason::PageRoom, 0));
     }
     let table = check(table)?;
     let mut site = Site::fresh();
     follow(&table, Schedule::First, schedule, &mut site, |_, _| {})?;
-    let mut rest = buffer;
-    lines(&table, &site, &mut rest).expect("there is room for eight lines");
-    Ok(lent - rest.len())
+    Ok(lay(&table, &site, buffer))
 }
 
 /// A line for each actor: actor, position, status and cells.

@@ -3,13 +3,15 @@
 mod common;
 
 use common::{A, refused, table, written};
-use reference::page;
+use reference::{page, quick};
 use tables::Action;
 use tables::action::set;
 
-/// The page of an accepted schedule, in the least room.
+/// The page of an accepted schedule, in the least room, by both ways.
 fn laid(table: &[u8], schedule: &[u8]) -> String {
-    String::from_utf8(written(page, 816, table, schedule)).unwrap()
+    let page = written(page, 816, table, schedule);
+    assert_eq!(written(quick::page, 816, table, schedule), page);
+    String::from_utf8(page).unwrap()
 }
 
 #[test]
@@ -91,6 +93,7 @@ fn eight_actors() {
 fn page_refused(table: &[u8], schedule: &[u8], room: usize) -> (u32, u32) {
     let mut buffer = vec![7; room];
     let answer = refused(page(table, schedule, &mut buffer));
+    assert_eq!(refused(quick::page(table, schedule, &mut buffer)), answer);
     assert_eq!(buffer, vec![7; room]);
     answer
 }

@@ -8,7 +8,7 @@ use crate::harness::slots::{Buffer, Lent, SCHEDULE, Slots, TABLE};
 use crate::inputs::steps::Steps;
 use crate::inputs::{buffers, digits};
 use crate::workload::{Load, Measure};
-use reference::{PAGE_ROOM, Reason};
+use reference::{PAGE_ROOM, Reason, quick};
 
 /// The page.
 pub const CALL: Call = Call {
@@ -61,6 +61,6 @@ pub fn measure(measure: &mut impl Measure, load: &Load) {
             let page = order_engine::page(&work.table, work.part(), &mut ours);
             page.expect("accepted").len()
         },
-        |work| reference::page(&work.table, work.part(), &mut theirs).expect("accepted"),
+        |work| quick::page(&work.table, work.part(), &mut theirs).expect("accepted"),
     );
 }
