@@ -1,14 +1,14 @@
 /* The order engine's calls for C. The library is target/staticlib/liborder_ffi.a, for x86-64 Linux.
  *
  * A slice is passed as a pointer and a number of elements. A call reads and writes no byte outside
- * the slices that it is lent, and writes only the report and the route; it keeps no pointer and has
- * no state, so that calls may run in several threads at once. Where the number is 0, the pointer may
- * be null. Otherwise it points at so many elements and is aligned for their type. A slice that is
- * written shares no byte with another.
+ * the slices that it is lent, and writes only the report, the page and the route; it keeps no pointer
+ * and has no state, so that calls may run in several threads at once. Where the number is 0, the
+ * pointer may be null. Otherwise it points at so many elements and is aligned for their type. A slice
+ * that is written shares no byte with another.
  *
  * In every answer `refusal` is 0 where the call accepted, otherwise the number of the refusal, and
  * `position` is its position; the other fields are then 0. A call that refuses changes nothing that
- * it was lent. docs/FORMAT.md says what the bytes of a table and of a report are.
+ * it was lent. docs/FORMAT.md says what the bytes of a table, of a report and of a page are.
  */
 #ifndef ORDER_H
 #define ORDER_H
@@ -55,7 +55,10 @@ enum OrderRefusal {
 
     /* The route; position 0. */
     ORDER_REFUSED_ROUTE_ROOM = 18, /* its buffer has under ORDER_ROUTE_ROOM(m) entries, m the schedules' length */
-    ORDER_REFUSED_DIFFERENT = 19   /* the schedules are different: there is none */
+    ORDER_REFUSED_DIFFERENT = 19,  /* the schedules are different: there is none */
+
+    /* The page buffer; position 0. */
+    ORDER_REFUSED_PAGE_ROOM = 20 /* it has under ORDER_PAGE_ROOM bytes */
 };
 
 /* The longest table has so many bytes, and the longest accepted schedule so many entries. */
@@ -108,6 +111,23 @@ typedef struct {
 
 /* Which actors are ready at the end of a schedule from a fresh site. Refusals, in this order: 1 to 9; 11 to 13. */
 OrderReady order_ready(const uint8_t *table, size_t table_length, const uint8_t *schedule, size_t schedule_length);
+
+/* The bytes that order_page wants lent. No page is longer. */
+#define ORDER_PAGE_ROOM 816
+
+/* What a page call answers: the number of bytes that were laid out. */
+typedef struct {
+    uint32_t refusal;
+    uint32_t position;
+    uint32_t length;
+} OrderPage;
+
+/* Runs a schedule from a fresh site and lays its end state out as a text in the first bytes of `page`: for each
+ * actor a line of 101 characters and a line feed, with its number, position, status and cells. No 0 follows it,
+ * and the bytes after it stay as they were. Refusals, in this order: 20; 1 to 9; 11 to 13.
+ */
+OrderPage order_page(const uint8_t *table, size_t table_length, const uint8_t *schedule, size_t schedule_length,
+                     uint8_t *page, size_t page_length);
 
 /* What order_pair says of two steps. */
 enum OrderPairVerdict {

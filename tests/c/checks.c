@@ -30,7 +30,7 @@ Lent lend(const uint8_t *table, size_t table_length, const uint8_t *first, size_
     lent.table_length = table_length;
     lent.first_length = first_length;
     lent.second_length = second_length;
-    lent.report_length = ORDER_REPORT_ROOM;
+    lent.bytes_length = ORDER_REPORT_ROOM;
     lent.route_length = ROUTE;
     memcpy(lent.table, table, table_length);
     memcpy(lent.first, first, first_length);
@@ -38,7 +38,7 @@ Lent lend(const uint8_t *table, size_t table_length, const uint8_t *first, size_
     memcpy(lent.table_before, lent.table, sizeof lent.table);
     memcpy(lent.first_before, lent.first, sizeof lent.first);
     memcpy(lent.second_before, lent.second, sizeof lent.second);
-    memcpy(lent.report_before, lent.report, sizeof lent.report);
+    memcpy(lent.bytes_before, lent.bytes, sizeof lent.bytes);
     memcpy(lent.route_before, lent.route, sizeof lent.route);
     return lent;
 }
@@ -48,14 +48,14 @@ Lent with(const uint8_t *first, size_t first_length, const uint8_t *second, size
     return lend(table_a, sizeof table_a, first, first_length, second, second_length);
 }
 
-void expect_kept(const Lent *lent, size_t report, size_t route, const char *call)
+void expect_kept(const Lent *lent, size_t bytes, size_t route, const char *call)
 {
     expect(memcmp(lent->table, lent->table_before, sizeof lent->table) == 0, call, "the table changed");
     expect(memcmp(lent->first, lent->first_before, sizeof lent->first) == 0, call, "the first schedule changed");
     expect(memcmp(lent->second, lent->second_before, sizeof lent->second) == 0, call,
            "the second schedule changed");
-    expect(memcmp(lent->report + report, lent->report_before + report, sizeof lent->report - report) == 0, call,
-           "the report buffer changed where it may not");
+    expect(memcmp(lent->bytes + bytes, lent->bytes_before + bytes, sizeof lent->bytes - bytes) == 0, call,
+           "the lent bytes changed where they may not");
     expect(memcmp(lent->route + route, lent->route_before + route,
                   sizeof lent->route - route * sizeof lent->route[0]) == 0,
            call, "the route buffer changed where it may not");

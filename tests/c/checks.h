@@ -30,8 +30,8 @@ typedef struct {
     size_t first_length;
     uint8_t second[ENTRIES + 4], second_before[ENTRIES + 4];
     size_t second_length;
-    uint8_t report[ORDER_REPORT_ROOM + 8], report_before[ORDER_REPORT_ROOM + 8];
-    size_t report_length;
+    uint8_t bytes[ORDER_REPORT_ROOM + 8], bytes_before[ORDER_REPORT_ROOM + 8]; /* for a report or a page */
+    size_t bytes_length;
     uint16_t route[ROUTE + 2], route_before[ROUTE + 2];
     size_t route_length;
 } Lent;
@@ -43,13 +43,14 @@ Lent lend(const uint8_t *table, size_t table_length, const uint8_t *first, size_
 /* The same, of table A. */
 Lent with(const uint8_t *first, size_t first_length, const uint8_t *second, size_t second_length);
 
-/* Nothing changed but the first bytes of the report and the first entries of the route. */
-void expect_kept(const Lent *lent, size_t report, size_t route, const char *call);
+/* Nothing changed but the first of the lent bytes and the first entries of the route. */
+void expect_kept(const Lent *lent, size_t bytes, size_t route, const char *call);
 
 /* An answer refused, with every other field 0. */
 void expect_check_refused(OrderCheck answer, uint32_t number, uint32_t position);
 void expect_run_refused(OrderRun answer, uint32_t number, uint32_t position);
 void expect_ready_refused(OrderReady answer, uint32_t number, uint32_t position);
+void expect_page_refused(OrderPage answer, uint32_t number, uint32_t position);
 void expect_pair_refused(OrderPair answer, uint32_t number, uint32_t position);
 void expect_same_refused(OrderSame answer, uint32_t number, uint32_t position);
 void expect_route_refused(OrderRoute answer, uint32_t number, uint32_t position);
@@ -58,6 +59,7 @@ void expect_route_refused(OrderRoute answer, uint32_t number, uint32_t position)
 void check_refused(Lent lent, uint32_t number, uint32_t position);
 void run_refused(Lent lent, uint32_t number, uint32_t position);
 void ready_refused(Lent lent, uint32_t number, uint32_t position);
+void page_refused(Lent lent, uint32_t number, uint32_t position);
 void pair_refused(Lent lent, const uint8_t steps[4], uint32_t number, uint32_t position);
 void same_refused(Lent lent, uint32_t number, uint32_t position);
 void route_refused(Lent lent, uint32_t number, uint32_t position);
@@ -65,6 +67,7 @@ void route_refused(Lent lent, uint32_t number, uint32_t position);
 /* The parts. */
 void tables(void);
 void stepping(void);
+void lines(void);
 void verdicts(void);
 void empty_slices(void);
 

@@ -17,7 +17,7 @@ static void checks_and_pairs(void)
 static void runs(void)
 {
     Lent lent = both();
-    OrderRun answer = order_run(NULL, 0, lent.first, lent.first_length, lent.report, lent.report_length);
+    OrderRun answer = order_run(NULL, 0, lent.first, lent.first_length, lent.bytes, lent.bytes_length);
     expect_run_refused(answer, ORDER_REFUSED_SHORT_TABLE, 0);
     expect_kept(&lent, 0, 0, "order_run without a table");
 
@@ -29,11 +29,11 @@ static void runs(void)
     expect_run_refused(answer, ORDER_REFUSED_REPORT_ROOM, 0);
 
     /* A fresh site. */
-    answer = order_run(lent.table, lent.table_length, NULL, 0, lent.report, lent.report_length);
+    answer = order_run(lent.table, lent.table_length, NULL, 0, lent.bytes, lent.bytes_length);
     expect_number(answer.refusal, ORDER_ACCEPTED, "order_run without a schedule", "the refusal");
     expect_number(answer.length, 100, "order_run without a schedule", "the report's length");
     for (size_t i = 0; i < 100; i++) {
-        expect_number(lent.report[i], 0, "order_run without a schedule", "a byte of the report");
+        expect_number(lent.bytes[i], 0, "order_run without a schedule", "a byte of the report");
     }
     expect_kept(&lent, 100, 0, "order_run without a schedule");
 }
@@ -50,6 +50,22 @@ static void readies(void)
     expect_number(answer.count, 2, "order_ready without a schedule", "the count");
     expect_number(answer.ending, ORDER_GOING, "order_ready without a schedule", "the ending");
     expect_kept(&lent, 0, 0, "order_ready");
+}
+
+static void pages(void)
+{
+    Lent lent = both();
+    OrderPage answer = order_page(NULL, 0, lent.first, lent.first_length, lent.bytes, lent.bytes_length);
+    expect_page_refused(answer, ORDER_REFUSED_SHORT_TABLE, 0);
+    answer = order_page(lent.table, lent.table_length, lent.first, lent.first_length, NULL, 0);
+    expect_page_refused(answer, ORDER_REFUSED_PAGE_ROOM, 0);
+    expect_page_refused(order_page(NULL, 0, NULL, 0, NULL, 0), ORDER_REFUSED_PAGE_ROOM, 0);
+    expect_kept(&lent, 0, 0, "order_page without a table or a buffer");
+
+    answer = order_page(lent.table, lent.table_length, NULL, 0, lent.bytes, lent.bytes_length);
+    expect_number(answer.refusal, ORDER_ACCEPTED, "order_page without a schedule", "the refusal");
+    expect_number(answer.length, 204, "order_page without a schedule", "the page's length");
+    expect_kept(&lent, 204, 0, "order_page without a schedule");
 }
 
 static void expect_verdict(OrderSame answer, uint32_t verdict)
@@ -109,6 +125,7 @@ void empty_slices(void)
     checks_and_pairs();
     runs();
     readies();
+    pages();
     sames();
     routes();
 }

@@ -26,6 +26,12 @@ void expect_ready_refused(OrderReady answer, uint32_t number, uint32_t position)
     expect_number(answer.ending, 0, "order_ready", "the ending at a refusal");
 }
 
+void expect_page_refused(OrderPage answer, uint32_t number, uint32_t position)
+{
+    expect_refusal(answer.refusal, answer.position, number, position, "order_page");
+    expect_number(answer.length, 0, "order_page", "the length at a refusal");
+}
+
 void expect_pair_refused(OrderPair answer, uint32_t number, uint32_t position)
 {
     expect_refusal(answer.refusal, answer.position, number, position, "order_pair");
@@ -52,8 +58,8 @@ void check_refused(Lent lent, uint32_t number, uint32_t position)
 
 void run_refused(Lent lent, uint32_t number, uint32_t position)
 {
-    OrderRun answer = order_run(lent.table, lent.table_length, lent.first, lent.first_length, lent.report,
-                                lent.report_length);
+    OrderRun answer = order_run(lent.table, lent.table_length, lent.first, lent.first_length, lent.bytes,
+                                lent.bytes_length);
     expect_run_refused(answer, number, position);
     expect_kept(&lent, 0, 0, "order_run");
 }
@@ -63,6 +69,14 @@ void ready_refused(Lent lent, uint32_t number, uint32_t position)
     OrderReady answer = order_ready(lent.table, lent.table_length, lent.first, lent.first_length);
     expect_ready_refused(answer, number, position);
     expect_kept(&lent, 0, 0, "order_ready");
+}
+
+void page_refused(Lent lent, uint32_t number, uint32_t position)
+{
+    OrderPage answer = order_page(lent.table, lent.table_length, lent.first, lent.first_length, lent.bytes,
+                                  lent.bytes_length);
+    expect_page_refused(answer, number, position);
+    expect_kept(&lent, 0, 0, "order_page");
 }
 
 void pair_refused(Lent lent, const uint8_t steps[4], uint32_t number, uint32_t position)

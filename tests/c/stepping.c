@@ -7,18 +7,18 @@ static void runs(void)
 {
     static const uint8_t whole[] = {0, 1, 0, 1};
     Lent lent = with(whole, 4, whole, 0);
-    OrderRun answer = order_run(lent.table, lent.table_length, lent.first, lent.first_length, lent.report,
-                                lent.report_length);
+    OrderRun answer = order_run(lent.table, lent.table_length, lent.first, lent.first_length, lent.bytes,
+                                lent.bytes_length);
     /* (a) */
     static const uint8_t cells[8] = {149, 0, 0, 0, 1, 0, 0, 0};
     expect_number(answer.refusal, ORDER_ACCEPTED, "order_run", "the refusal");
     expect_number(answer.position, 0, "order_run", "the position");
     expect_number(answer.length, 100, "order_run", "the report's length");
-    expect(memcmp(lent.report + 42, cells, 8) == 0, "order_run", "actor 1's cells 2 and 3 are not 149 and 1");
+    expect(memcmp(lent.bytes + 42, cells, 8) == 0, "order_run", "actor 1's cells 2 and 3 are not 149 and 1");
     expect_kept(&lent, 100, 0, "order_run");
 
     lent = with(whole, 4, whole, 0);
-    lent.report_length = ORDER_REPORT_ROOM - 1;
+    lent.bytes_length = ORDER_REPORT_ROOM - 1;
     run_refused(lent, ORDER_REFUSED_REPORT_ROOM, 0);
     /* It comes before all else. */
     lent.table_length = 0;
@@ -43,6 +43,7 @@ static void entry_refused(const uint8_t *schedule, size_t length, uint32_t numbe
     Lent lent = with(schedule, length, schedule, 0);
     run_refused(lent, number, position);
     ready_refused(lent, number, position);
+    page_refused(lent, number, position);
     /* The first schedule's refusal comes before the second's. */
     static const uint8_t absent[] = {7};
     same_refused(with(schedule, length, absent, 1), number, position);

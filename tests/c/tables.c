@@ -11,6 +11,7 @@ static void table_refused(const uint8_t *table, size_t length, uint32_t number, 
     check_refused(lent, number, position);
     run_refused(lent, number, position);
     ready_refused(lent, number, position);
+    page_refused(lent, number, position);
     pair_refused(lent, steps, number, position);
     same_refused(lent, number, position);
     route_refused(lent, number, position);

@@ -25,6 +25,13 @@ pub struct Work {
     pub steps: [StepName; 2],
 }
 
+impl Work {
+    /// Three quarters of the first schedule: actors are left.
+    pub fn part(&self) -> &[u8] {
+        &self.first[..self.first.len() / 4 * 3]
+    }
+}
+
 /// Inputs that are measured together, one after the other.
 pub struct Load {
     /// What they are.

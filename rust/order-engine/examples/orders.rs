@@ -4,8 +4,8 @@
 //! cargo run --example orders
 //! ```
 
-use order_engine::{REPORT_ROOM, Reason, Refusal, StepName};
-use order_engine::{pair, ready, route, route_room, run, same};
+use order_engine::{PAGE_ROOM, REPORT_ROOM, Reason, Refusal, StepName};
+use order_engine::{page, pair, ready, route, route_room, run, same};
 use tables::TABLE_A;
 
 fn main() -> Result<(), Refusal> {
@@ -28,6 +28,7 @@ fn main() -> Result<(), Refusal> {
             println!("mailbox {}: {step} waits", mailbox.number());
         }
     }
+    print!("{}", page(&TABLE_A, &[1], &mut [0; PAGE_ROOM])?);
 
     // The Send against the Receive, and against the Wait for it.
     let [send, receive, wait] = [(0, 1), (1, 0), (1, 1)].map(StepName::from);

@@ -5,7 +5,8 @@
 //! into a [`Result`]. A refusal tells its number, its position and a sentence.
 //!
 //! - [`check()`]: whether a file is a task table;
-//! - [`run()`] and [`ready()`]: what a schedule leads to, as a [`Report`], and who is ready then;
+//! - [`run()`], [`ready()`] and [`page()`]: what a schedule leads to, as a [`Report`], who is ready then,
+//!   and the same as a text with a line for each actor;
 //! - [`pair()`], [`same()`] and [`route()`]: whether two steps are dependent, whether two schedules are
 //!   one and the same run, and the exchanges that lead from the one to the other.
 //!
@@ -24,6 +25,7 @@
 
 pub mod check;
 mod fields;
+pub mod page;
 pub mod pair;
 pub mod ready;
 mod refusal;
@@ -35,6 +37,7 @@ mod step;
 
 pub use check::check;
 pub use fields::Fields;
+pub use page::{PAGE_ROOM, page};
 pub use pair::{PairVerdict, pair};
 pub use ready::{Ending, Ready, ready};
 pub use refusal::{Reason, Refusal};

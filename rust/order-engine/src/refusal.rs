@@ -47,6 +47,7 @@ reasons! {
     17 NoStep "a step's name is not in the table";
     18 RouteRoom "the route buffer is too small";
     19 Different "the schedules are not the same, so that no route joins them";
+    20 PageRoom "the page buffer is too small";
 }
 
 impl Reason {

@@ -1,6 +1,6 @@
 //! What `include/order.h` says by name, against this crate.
 
-use order_engine::{REPORT_ROOM, Reason};
+use order_engine::{PAGE_ROOM, REPORT_ROOM, Reason};
 use std::collections::BTreeMap;
 use tables::layout::{LONGEST, MOST, MOST_ACTIONS};
 
@@ -50,6 +50,7 @@ fn the_rest() {
     let wanted = [
         ("ORDER_ACCEPTED", 0),
         ("ORDER_REPORT_ROOM", REPORT_ROOM as u32),
+        ("ORDER_PAGE_ROOM", PAGE_ROOM as u32),
         ("ORDER_TABLE_MOST", LONGEST as u32),
         ("ORDER_SCHEDULE_MOST", u32::from(MOST) * MOST_ACTIONS as u32),
         ("ORDER_FINISHED", 0),

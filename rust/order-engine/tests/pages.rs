@@ -1,6 +1,6 @@
-//! The bytes that `docs/FORMAT.md` shows: table A and its report, line by line.
+//! The bytes that `docs/FORMAT.md` shows: table A and its report, line by line, and its page.
 
-use order_engine::{REPORT_ROOM, run};
+use order_engine::{PAGE_ROOM, REPORT_ROOM, page, run};
 use std::fs;
 use std::path::{Path, PathBuf};
 use tables::TABLE_A;
@@ -42,4 +42,11 @@ fn the_report() {
     let mut buffer = [0xa5; REPORT_ROOM];
     let report = run(&TABLE_A, &[0, 1, 0, 1], &mut buffer).expect("accepted");
     assert_eq!(annotated("report.hex"), report.bytes());
+}
+
+#[test]
+fn the_page() {
+    let shown = include_str!("../../../tests/order/page-table-a/stdout");
+    let mut buffer = [0xa5; PAGE_ROOM];
+    assert_eq!(page(&TABLE_A, &[0, 1, 0, 1], &mut buffer), Ok(shown));
 }

@@ -1,6 +1,6 @@
-//! The proved run and ready answer, called from Rust: document 01's cases (a) to (f).
+//! The proved run, ready answer and page, called from Rust: document 01's cases (a) to (f).
 
-use order_engine::{Ending, REPORT_ROOM, Ready, Refusal, ready, run};
+use order_engine::{Ending, PAGE_ROOM, REPORT_ROOM, Ready, Refusal, page, ready, run};
 use tables::TABLE_A as A;
 
 fn numbers<T: std::fmt::Debug>(answer: Result<T, Refusal>) -> (u32, u32) {
@@ -8,12 +8,14 @@ fn numbers<T: std::fmt::Debug>(answer: Result<T, Refusal>) -> (u32, u32) {
     (refusal.number(), refusal.position())
 }
 
-/// The refusal of a run and of the ready answer, which write nothing.
+/// The refusal of a run, of the ready answer and of a page, which write nothing.
 fn refused(schedule: &[u8]) -> (u32, u32) {
     let mut report = [7; REPORT_ROOM];
     let refusal = numbers(run(&A, schedule, &mut report));
     assert_eq!(report, [7; REPORT_ROOM]);
     assert_eq!(numbers(ready(&A, schedule)), refusal);
+    assert_eq!(numbers(page(&A, schedule, &mut report)), refusal);
+    assert_eq!(report, [7; REPORT_ROOM]);
     refusal
 }
 
@@ -49,7 +51,20 @@ fn cases_e_and_f() {
 }
 
 #[test]
+fn a_page() {
+    let mut buffer = [7; PAGE_ROOM];
+    let page = page(&A, &[1], &mut buffer).unwrap();
+    let words: Vec<Vec<&str>> = page.lines().map(|line| line.split(' ').collect()).collect();
+    assert!(words[0].starts_with(&["0", "", "0", "ready"]));
+    assert!(words[1].starts_with(&["1", "", "1", "waits"]));
+    assert_eq!(page.len(), 204);
+    assert!(buffer[204..].iter().all(|&byte| byte == 7));
+}
+
+#[test]
 fn a_short_buffer() {
     assert_eq!(numbers(run(&A, &[], &mut [0; REPORT_ROOM - 1])), (10, 0));
     assert_eq!(numbers(run(&[], &[9], &mut [])), (10, 0));
+    assert_eq!(numbers(page(&A, &[], &mut [0; PAGE_ROOM - 1])), (20, 0));
+    assert_eq!(numbers(page(&[], &[9], &mut [])), (20, 0));
 }

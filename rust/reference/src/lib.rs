@@ -1,7 +1,7 @@
-//! The order engine of document 01 in plain Rust, written from that document.
+//! The order engine of documents 01 and 02 in plain Rust, written from them.
 //!
 //! It exists to be compared with the proved engine, in answers and in speed. Each module holds one
-//! part of the document:
+//! part of the documents:
 //!
 //! - [`refusal`]: what a refusal says;
 //! - [`action`]: an action taken apart;
@@ -11,12 +11,14 @@
 //! - [`actor`], [`communication`], [`mailbox`], [`mutex`]: the parts of a site's state;
 //! - [`site`]: the state and its steps;
 //! - [`mod@follow`]: stepping along a schedule, refusals 11 to 16;
-//! - [`mod@ready`], [`report`], [`mod@run`]: the ready answer, the state report and the run;
+//! - [`status`], [`mod@ready`]: how an actor stands, and the ready answer;
+//! - [`report`], [`mod@run`], [`mod@page`]: the state report, the run and the page;
 //! - [`mod@pair`]: the pair verdict, by its four cases;
 //! - [`trace`], [`mod@same`], [`mod@route`]: an accepted schedule's steps, the same verdict by normal
 //!   forms, and the exchange route;
 //! - [`search`] and [`mod@replay`]: the same verdict by searching all chains, and a route replayed;
-//! - [`quick`] and [`footprint`]: the same verdict and the route made for speed, to be measured.
+//! - [`quick`] and [`footprint`]: the page, the same verdict and the route made for speed, to be
+//!   measured.
 //!
 //! The stepping engine knows a table by [`Table`] alone, which only [`check`] makes. Stepping needs no
 //! heap; a step costs the same however long the schedule and the queues are.
@@ -30,10 +32,10 @@
 //! Stepping follows the same sentences in much the same way: names in a mailbox are written one after
 //! the other and never moved, a mutex's queue is an array and a length, a test goes through its list.
 //! The route pulls each entry to its place in turn, as the proved one does. Decided by another way:
-//! the reader's forms (masks over an action's bytes), dependence (the four cases as the document has
-//! them, without a table of codes), and the same verdict (normal forms; on short schedules also a
-//! search through all chains). [`quick`], which is measured and not compared, works as the proved
-//! engine does.
+//! the reader's forms (masks over an action's bytes), the page (Rust's own formatting), dependence (the
+//! four cases as the document has them, without a table of codes), and the same verdict (normal forms;
+//! on short schedules also a search through all chains). [`quick`], which is measured and not compared,
+//! works as the proved engine does.
 
 #![forbid(unsafe_code)]
 
@@ -45,6 +47,7 @@ pub mod footprint;
 pub mod mailbox;
 pub mod mutex;
 pub mod name;
+pub mod page;
 pub mod pair;
 pub mod quick;
 pub mod reader;
@@ -57,12 +60,14 @@ pub mod run;
 pub mod same;
 pub mod search;
 pub mod site;
+pub mod status;
 pub mod table;
 pub mod trace;
 
 pub use action::{Action, List};
 pub use follow::{Schedule, follow};
 pub use name::Name;
+pub use page::{PAGE_ROOM, page};
 pub use pair::pair;
 pub use reader::{check, validate};
 pub use ready::{Ending, Ready, ready};
@@ -74,4 +79,5 @@ pub use run::run;
 pub use same::same;
 pub use search::chain_exists;
 pub use site::Site;
+pub use status::Status;
 pub use table::Table;

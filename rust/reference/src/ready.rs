@@ -1,10 +1,10 @@
 //! Who is ready, and whether the site has ended.
 
-use crate::action::Action;
 use crate::follow::{Schedule, follow};
 use crate::reader::check;
 use crate::refusal::Refusal;
 use crate::site::Site;
+use crate::status::Status;
 use crate::table::Table;
 
 /// How a state stands.
@@ -35,11 +35,9 @@ impl Ready {
         let mut mask = 0;
         let mut finished = true;
         for (actor, script) in table.scripts().iter().enumerate() {
-            let Some(&bytes) = script.get(site.actor(actor).position) else {
-                continue;
-            };
-            finished = false;
-            if site.ready(actor, &Action::decode(bytes)) {
+            let status = Status::of(script, site, actor);
+            finished &= status == Status::Finished;
+            if status == Status::Ready {
                 mask |= 1 << actor;
             }
         }

@@ -1,8 +1,8 @@
-//! Refusals: document 01's number and a position.
+//! Refusals: the documents' number and a position.
 
 macro_rules! reasons {
     ($($(#[$doc:meta])* $number:literal $reason:ident;)*) => {
-        /// Why a call refuses; the discriminant is document 01's number.
+        /// Why a call refuses; the discriminant is the documents' number.
         #[derive(Clone, Copy, PartialEq, Eq, PartialOrd, Ord, Hash, Debug)]
         #[repr(u32)]
         pub enum Reason {
@@ -58,6 +58,8 @@ reasons! {
     18 RouteRoom;
     /// The schedules are different, so that there is no route.
     19 Different;
+    /// The page buffer has under 816 bytes.
+    20 PageRoom;
 }
 
 impl Reason {
@@ -84,7 +86,7 @@ impl Reason {
         Self::SecondNotReady,
     ];
 
-    /// Document 01's number.
+    /// The documents' number.
     pub const fn number(self) -> u32 {
         self as u32
     }
@@ -112,7 +114,7 @@ impl Refusal {
         Self { reason, position }
     }
 
-    /// Document 01's number.
+    /// The documents' number.
     pub const fn number(self) -> u32 {
         self.reason.number()
     }

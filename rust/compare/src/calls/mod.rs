@@ -21,4 +21,4 @@ macro_rules! calls {
     };
 }
 
-calls! { check run ready pair same route }
+calls! { check run ready page pair same route }

@@ -5,7 +5,7 @@ use crate::harness::call::{Call, no_sweep};
 use crate::harness::slots::{Buffer, Lent, SCHEDULE, Slots, TABLE};
 use crate::harness::tally::Tally;
 use crate::inputs::steps::Steps;
-use crate::workload::{Load, Measure, Work};
+use crate::workload::{Load, Measure};
 use reference::{Ending, Ready, Reason};
 use tables::Layout;
 
@@ -20,10 +20,7 @@ pub const CALL: Call = Call {
     },
     refusals: &[&Reason::OF_TABLE, &Reason::OF_FIRST],
     cases: 220_000,
-    next: |rng, input| {
-        let Steps { table, schedule } = Steps::any(rng);
-        [input.read[0], input.read[1]] = [table, schedule];
-    },
+    next: |rng, input| input.read = Steps::any(rng).slices(),
     sweep: no_sweep,
     engine: |lent| order_engine::ready::fields(lent.read[0], lent.read[1]).into(),
     reference: |lent: Lent| {
@@ -76,20 +73,17 @@ fn note(tally: &mut Tally, asked: &Asked) {
     });
 }
 
-/// Measures it on a load, three quarters of the way, where actors are left.
+/// Measures it on a load, three quarters of the way.
 pub fn measure(measure: &mut impl Measure, load: &Load) {
-    fn part(work: &Work) -> &[u8] {
-        &work.first[..work.first.len() / 4 * 3]
-    }
     measure.measure(
         CALL.name,
         load,
         |work| {
-            let answer = order_engine::ready(&work.table, part(work));
+            let answer = order_engine::ready(&work.table, work.part());
             answer.expect("accepted").mask as usize
         },
         |work| {
-            let answer = reference::ready(&work.table, part(work));
+            let answer = reference::ready(&work.table, work.part());
             answer.expect("accepted").mask as usize
         },
     );

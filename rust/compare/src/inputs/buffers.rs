@@ -3,7 +3,7 @@
 use crate::inputs::rng::Rng;
 
 /// How long a buffer is of which a call wants `least`: mostly enough.
-pub fn room(rng: &mut Rng, least: usize) -> usize {
+fn room(rng: &mut Rng, least: usize) -> usize {
     match rng.below(32) {
         0 => least.saturating_sub(1),
         1 => rng.below(least.max(1)),
@@ -15,8 +15,9 @@ pub fn room(rng: &mut Rng, least: usize) -> usize {
     }
 }
 
-/// Bytes to tell by whether they were written.
-pub fn bytes(rng: &mut Rng, buffer: &mut Vec<u8>, length: usize) {
+/// Bytes to tell by whether they were written, for a call that wants `least`.
+pub fn bytes(rng: &mut Rng, buffer: &mut Vec<u8>, least: usize) {
+    let length = room(rng, least);
     let mut byte = rng.byte();
     let step = rng.byte() | 1;
     let next = || {

@@ -7,12 +7,14 @@
 //!   schedules with a refused entry;
 //! - [`interleave`]: from one schedule to another with the same steps;
 //! - [`steps`], [`twins`]: tables with one schedule or with two; [`deep`]: those with full queues;
+//!   [`digits`]: those whose cells hold numbers of every length;
 //! - [`buffers`]: lent buffers.
 
 pub mod buffers;
 pub mod contended;
 pub mod damage;
 pub mod deep;
+pub mod digits;
 pub mod entries;
 pub mod families;
 pub mod interleave;

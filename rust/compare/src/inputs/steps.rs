@@ -19,6 +19,11 @@ pub struct Steps {
 }
 
 impl Steps {
+    /// The table and the schedule, as a call reads them.
+    pub fn slices(self) -> [Vec<u8>; 3] {
+        [self.table, self.schedule, Vec::new()]
+    }
+
     /// One of any sort: accepted, refused at an entry, or with a table that is refused.
     pub fn any(rng: &mut Rng) -> Self {
         match rng.below(512) {

@@ -2,6 +2,7 @@
 
 mod build;
 mod check;
+mod page;
 mod pair;
 mod ready;
 mod route;
@@ -16,6 +17,7 @@ pub static ALL: &[&Command] = &[
     &check::COMMAND,
     &run::COMMAND,
     &ready::COMMAND,
+    &page::COMMAND,
     &pair::COMMAND,
     &same::COMMAND,
     &route::COMMAND,

@@ -22,10 +22,19 @@ pub fn after(table: &[u8], schedule: &[u8]) -> Site {
 
 /// The report of an accepted schedule.
 pub fn report(table: &[u8], schedule: &[u8]) -> Vec<u8> {
-    let mut buffer = [0xa5; 2_912];
-    let length = run(table, schedule, &mut buffer).unwrap();
+    written(run, 2_912, table, schedule)
+}
+
+/// A call that writes what a schedule leads to.
+pub type Writes = fn(&[u8], &[u8], &mut [u8]) -> Result<usize, Refusal>;
+
+/// What an accepted call writes into so much room; the bytes after it stay as they were.
+pub fn written(call: Writes, room: usize, table: &[u8], schedule: &[u8]) -> Vec<u8> {
+    let mut buffer = vec![0xa5; room];
+    let length = call(table, schedule, &mut buffer).unwrap();
     assert!(buffer[length..].iter().all(|&byte| byte == 0xa5));
-    buffer[..length].to_vec()
+    buffer.truncate(length);
+    buffer
 }
 
 /// Number and position of a refusal.

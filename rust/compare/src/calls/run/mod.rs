@@ -21,10 +21,8 @@ pub const CALL: Call = Call {
     refusals: &[&[Reason::ReportRoom], &Reason::OF_TABLE, &Reason::OF_FIRST],
     cases: 240_000,
     next: |rng, input| {
-        let Steps { table, schedule } = Steps::any(rng);
-        [input.read[0], input.read[1]] = [table, schedule];
-        let room = buffers::room(rng, REPORT_ROOM);
-        buffers::bytes(rng, &mut input.bytes, room);
+        input.read = Steps::any(rng).slices();
+        buffers::bytes(rng, &mut input.bytes, REPORT_ROOM);
     },
     sweep: no_sweep,
     engine: |lent| order_engine::run::fields(lent.read[0], lent.read[1], lent.bytes).into(),
