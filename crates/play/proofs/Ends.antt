@@ -19,7 +19,6 @@ use Rattle.names.specs.InByte.{nameOf}
 use Rattle.state.specs.State.{recordOf, recordsOf, freshActor, commOf, commsOf, waitingOf, queuesOf, siteOf, portNumber}
 use Rattle.play.specs.Parts.{Fresh, Ended}
 use Rattle.state.specs.declared.Actor.{Actor}
-use Rattle.play.specs.declared.Played.{Played}
 use Rattle.play.proofs.Playing.{Playing}
 
 pub getD-alike : {A : Type 0} (n i : ℕ) (x : A) → getD (replicate n x) i x ≡ x
@@ -90,7 +89,7 @@ start-zeros table schedule names′ F =
       };
       queue-room = record { long = length-replicate {A = ℕ} 72 0; bounded = λ m. omega (arith, getD-alike {A = ℕ} 72 (9 * m) 0) };
       tail-room = λ n. omega (arith, getD-alike {A = ℕ} 32 (2 * n + 1) 0);
-      names-long = F .names-long;
+      names-long = F .zeros .names-long;
       names-right = refl;
     }
 
@@ -99,15 +98,12 @@ pub playing-start : (table schedule comms log ends queues names′ : List ℕ) (
     → Fresh table comms log ends queues names′ → actors ≡ replicate 8 freshActor
     → Playing table schedule comms log ends queues names′ actors 0
 playing-start table schedule comms log ends queues names′ actors F e =
-    rw (F .comms-fresh, F .log-fresh, F .ends-fresh, F .queues-fresh, e)
+    let z = F .zeros in
+    rw (z .comms-fresh, z .log-fresh, z .ends-fresh, z .queues-fresh, e)
     (start-zeros table schedule names′
     (record {
       accepted = F .accepted;
-      comms-fresh = refl;
-      log-fresh = refl;
-      ends-fresh = refl;
-      queues-fresh = refl;
-      names-long = F .names-long;
+      zeros = record { comms-fresh = refl; log-fresh = refl; ends-fresh = refl; queues-fresh = refl; names-long = z .names-long };
     }))
 
 module _ {table schedule comms log ends queues names′ : List ℕ} {actors : List Actor} {i : ℕ}
@@ -124,14 +120,12 @@ module _ {table schedule comms log ends queues names′ : List ℕ} {actors : Li
   pub checks-end : (n : RefusalNumbers) → fine ≡ checkSchedule n table schedule
   checks-end n = sym (taken-checks table n initial 0 schedule taken-all)
 
-  pub ended : (r : Played) → r .actors ≡ actors → Ended table schedule comms log ends queues names′ r
-  ended r e =
+  pub ended : Ended table schedule comms log ends queues names′ actors
+  ended =
       record {
-        site =
-            ap (λ (l : List Actor). siteOf l comms log ends queues) e ∙ P .site
-            ∙ ap (endState table) whole;
-        actors-long = ap length e ∙ P .actors-long;
-        eight = λ a. ap (λ (l : List Actor). length (getD l a freshActor .cells)) e ∙ P .eight a;
+        site = P .site ∙ ap (endState table) whole;
+        actors-long = P .actors-long;
+        eight = P .eight;
         mail-room = P .mail-room;
         queue-room = P .queue-room;
         entries-most = entries-room table (P .accepted-table) schedule taken-all;

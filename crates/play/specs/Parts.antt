@@ -10,20 +10,24 @@ use Rattle.trace.specs.Schedule.{names}
 use Rattle.model.specs.Site.{initial}
 use Rattle.model.specs.Schedule.{machine, endState, RefusalNumbers, checkSchedule}
 use Rattle.names.specs.InByte.{nameOf}
+use Rattle.state.specs.declared.Actor.{Actor}
 use Rattle.state.specs.State.{siteOf, MailRoom, QueueRoom, freshActor, EightCells}
 use Rattle.answers.specs.Answers.{stopOf}
 use Rattle.play.specs.declared.Halt.{Halt}
 use Rattle.play.specs.declared.Halt.the-variants.{End, At}
 use Rattle.play.specs.declared.Played.{Played}
 
--- an accepted table, and arrays of zeros
-pub record Fresh (table comms log ends queues names′ : List ℕ) : Type 0 where
-  pub accepted : WellFormed table
+-- arrays of zeros, and an array for the names
+pub record Zeros (comms log ends queues names′ : List ℕ) : Type 0 where
   pub comms-fresh : comms ≡ replicate 256 0
   pub log-fresh : log ≡ replicate 4096 0
   pub ends-fresh : ends ≡ replicate 32 0
   pub queues-fresh : queues ≡ replicate 72 0
   pub names-long : length names′ ≡ 256
+
+pub record Fresh (table comms log ends queues names′ : List ℕ) : Type 0 where
+  pub accepted : WellFormed table
+  pub zeros : Zeros comms log ends queues names′
 
 -- document 01's outcome for where a schedule halts, by the numbers of its refusals
 abbrev pub haltOf : RefusalNumbers → Halt → Outcome
@@ -31,10 +35,10 @@ haltOf n End = accepted
 haltOf n (At stop) = stopOf n stop
 
 -- the end state, in arrays
-pub record Ended (table schedule comms log ends queues names′ : List ℕ) (r : Played) : Type 0 where
-  pub site : siteOf (r .actors) comms log ends queues ≡ endState table schedule
-  pub actors-long : length (r .actors) ≡ 8
-  pub eight : (a : ℕ) → EightCells (getD (r .actors) a freshActor)
+pub record Ended (table schedule comms log ends queues names′ : List ℕ) (actors : List Actor) : Type 0 where
+  pub site : siteOf actors comms log ends queues ≡ endState table schedule
+  pub actors-long : length actors ≡ 8
+  pub eight : (a : ℕ) → EightCells (getD actors a freshActor)
   pub mail-room : MailRoom comms log ends
   pub queue-room : QueueRoom queues
   pub entries-most : length schedule ≤ 256
@@ -43,4 +47,4 @@ pub record Ended (table schedule comms log ends queues names′ : List ℕ) (r :
 
 pub record PlayedRight (table schedule comms log ends queues names′ : List ℕ) (r : Played) : Type 0 where
   pub halted : (n : RefusalNumbers) → haltOf n (r .halt) ≡ checkSchedule n table schedule
-  pub ended : r .halt ≡ End → Ended table schedule comms log ends queues names′ r
+  pub ended : r .halt ≡ End → Ended table schedule comms log ends queues names′ (r .actors)

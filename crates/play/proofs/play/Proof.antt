@@ -122,7 +122,7 @@ returns-3 c =
 
 returns-4 : tie.Need-returns-4 Inv-loop μ-loop
 returns-4 c =
-    record { halted = λ n. checks-end (c .before .loop .inv) (c .loop-test .left) n; ended = λ e. ended (c .before .loop .inv) (c .loop-test .left) _ refl }
+    record { halted = λ n. checks-end (c .before .loop .inv) (c .loop-test .left) n; ended = λ e. ended (c .before .loop .inv) (c .loop-test .left) }
 
 pub play-spec : {M : Type 1} → statement M
 play-spec =

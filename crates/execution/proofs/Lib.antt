@@ -1,0 +1,3 @@
+-- An execution by its course, and what its end is good for.
+pub mod Courses
+pub mod Ends

@@ -1,0 +1,2 @@
+-- What an execution leaves.
+pub mod Parts
