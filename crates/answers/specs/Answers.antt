@@ -14,16 +14,14 @@ use Rattle.answers.specs.declared.Refusal.the-variants as refusal
 use Rattle.answers.specs.declared.Ending.{Ending}
 use Rattle.answers.specs.declared.Ending.the-variants as ending
 use Rattle.answers.specs.declared.Readiness.{Readiness}
-use Rattle.answers.specs.declared.RunAnswer.{RunAnswer}
-use Rattle.answers.specs.declared.RunAnswer.the-variants as run
+use Rattle.answers.specs.declared.LengthAnswer.{LengthAnswer}
+use Rattle.answers.specs.declared.LengthAnswer.the-variants as written
 use Rattle.answers.specs.declared.ReadyAnswer.{ReadyAnswer}
 use Rattle.answers.specs.declared.ReadyAnswer.the-variants as ready
 use Rattle.answers.specs.declared.PairAnswer.{PairAnswer}
 use Rattle.answers.specs.declared.PairAnswer.the-variants as pair
 use Rattle.answers.specs.declared.SameAnswer.{SameAnswer}
 use Rattle.answers.specs.declared.SameAnswer.the-variants as same-answer
-use Rattle.answers.specs.declared.RouteAnswer.{RouteAnswer}
-use Rattle.answers.specs.declared.RouteAnswer.the-variants as route
 
 -- ---- refusals
 
@@ -41,15 +39,16 @@ refusalOf (refusal.Second stop) = stopOf secondNumbers stop
 refusalOf refusal.NoStep = refused 17 0
 refusalOf refusal.RouteRoom = refused 18 0
 refusalOf refusal.Different = refused 19 0
+refusalOf refusal.PageRoom = refused 20 0
 
 abbrev pub refusedBy : {A : Type 0} → Refusal → Result A
 refusedBy r = refuses (numberOf (refusalOf r)) (positionOf (refusalOf r))
 
 -- ---- answers
 
-abbrev pub runResult : RunAnswer → Result ℕ
-runResult (run.Written length) = gives length
-runResult (run.Refused r) = refusedBy r
+abbrev pub lengthResult : LengthAnswer → Result ℕ
+lengthResult (written.Length length) = gives length
+lengthResult (written.Refused r) = refusedBy r
 
 abbrev pub endingAs : Ending → Model.Ending
 endingAs ending.Finished = Model.finished
@@ -72,7 +71,3 @@ abbrev pub sameResult : SameAnswer → Result SameVerdict
 sameResult same-answer.Same = gives same
 sameResult same-answer.Different = gives different
 sameResult (same-answer.Refused r) = refusedBy r
-
-abbrev pub routeResult : RouteAnswer → Result ℕ
-routeResult (route.Length length) = gives length
-routeResult (route.Refused r) = refusedBy r

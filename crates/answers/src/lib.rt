@@ -58,6 +58,7 @@ pub enum Refusal {
     NoStep,
     RouteRoom,
     Different,
+    PageRoom,
 }
 
 impl Refusal {
@@ -73,6 +74,7 @@ impl Refusal {
             Refusal::NoStep => 17,
             Refusal::RouteRoom => 18,
             Refusal::Different => 19,
+            Refusal::PageRoom => 20,
         }
     }
 
@@ -88,13 +90,14 @@ impl Refusal {
             Refusal::NoStep => 0,
             Refusal::RouteRoom => 0,
             Refusal::Different => 0,
+            Refusal::PageRoom => 0,
         }
     }
 }
 
-// The answer of run: the length of the report that was written.
-pub enum RunAnswer {
-    Written(u32),
+// The answer of a call that writes into a lent buffer, run, page or route: the length of what was written.
+pub enum LengthAnswer {
+    Length(u32),
     Refused(Refusal),
 }
 
@@ -129,11 +132,5 @@ pub enum PairAnswer {
 pub enum SameAnswer {
     Same,
     Different,
-    Refused(Refusal),
-}
-
-// The answer of route: the length of the route that was written.
-pub enum RouteAnswer {
-    Length(u32),
     Refused(Refusal),
 }

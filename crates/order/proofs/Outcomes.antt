@@ -2,58 +2,67 @@
 -- Assumes nothing.
 use mathlib.Core.Path.{_≡_, _∙_, ap, sym, subst}
 use mathlib.Core.List.{List, _++_}
-use mathlib.Core.Logic.{_⊎_, inl, inr}
-use mathlib.Core.Bool.{true, false}
-use Prim.Native.Nat.{ℕ, _<_, _≤_}
+use Prim.Native.Nat.{ℕ, _*_, _<_, _≤_}
 use native.Mathlib.Omega.{arith}
-use borrow.Author.Tests.{le-leb, lt-leb, ltb-true, ltb-false}
-use lib.Dec.{ltb}
+use borrow.Author.Tests.{le-leb, lt-leb}
+use lib.Dec.{leb}
 use lib.ListN.{length, drop}
-use Rattle.table.specs.Outcome.{Outcome, accepted, refused}
-use Rattle.table.specs.Format.{actorsOf}
-use Rattle.table.specs.Promise.{WellFormed}
-use Rattle.trace.specs.Schedule.{accepted as taken}
-use Rattle.trace.proofs.Bools.{which}
-use Rattle.model.specs.Site.{Site, initial}
+use Rattle.table.specs.Outcome.{Outcome, accepted, refused, demand, _⨾_}
+use Rattle.table.specs.Format.{byteAt}
+use Rattle.model.specs.Site.{Site}
 use Rattle.model.specs.Ready.{ReadyAnswer, readyAnswer}
 use Rattle.model.specs.Report.{report}
-use Rattle.model.specs.Schedule.{machine, endState, firstNumbers, checkSchedule}
-use Rattle.model.specs.Calls.{gives, refuses, answer, lentAfter, runChecks, runOf, readyChecks, readyOf}
-use Rattle.model.proofs.Checks.{checks-taken}
+use Rattle.model.specs.Schedule.{endState}
+use Rattle.model.specs.Calls.{Result, gives, refuses, answer, Filled, lentAfter, fills, readyChecks, readyOf}
+use Rattle.model.specs.Page.{page}
+use Rattle.model.proofs.PageShape.{page-shape}
 use Rattle.model.proofs.Reached.{reached-end}
 use Rattle.model.proofs.ReportBound.{reports-fit}
-use Rattle.state.specs.State.{recordsOf, siteOf}
-use Rattle.play.specs.Parts.{Ended}
-use Rattle.readiness.specs.Parts.{Answerable}
+use Rattle.model.proofs.ReportBoundValues.{small-end}
+use Rattle.state.specs.declared.Actor.{Actor}
+use Rattle.state.specs.State.{siteOf}
 use Rattle.report.specs.Parts.{Reportable}
-use Rattle.play.specs.declared.Played.{Played}
+use Rattle.page.specs.Parts.{Pageable, pageFrom}
+use Rattle.page.proofs.Laws.{page-from}
+use Rattle.execution.specs.Parts.{AtEnd}
+use Rattle.execution.proofs.Ends.{all-taken, positions-small, answerable}
 
-module _ (table schedule buffer : List ℕ) where
-  pub run-refused : (n p : ℕ) → runChecks table schedule buffer ≡ refused n p
-      → (refuses n p ≡ runOf table schedule buffer .result) × (buffer ≡ runOf table schedule buffer .lent)
-  unfolding runOf
-  run-refused n p e = (
-    sym (ap (λ (o : Outcome). answer o (length (report table (endState table schedule)))) e),
-    sym (ap (λ (o : Outcome). lentAfter o (report table (endState table schedule)) buffer) e),
+-- ---- a call that fills a buffer of at least `room` bytes with a text of the end state, and refuses `number` where there are fewer
+
+abbrev pub Answers : Result ℕ → (after : List ℕ) → Filled → Type 0
+Answers result after o = (result ≡ o .result) × (after ≡ o .lent)
+
+module _ (room number : ℕ) (text : Site → List ℕ) (table schedule buffer : List ℕ) where
+  abbrev checks : Outcome
+  checks = demand (leb room (length buffer)) number 0 ⨾ readyChecks table schedule
+
+  abbrev filled : Filled
+  filled = fills checks (text (endState table schedule)) buffer
+
+  refused-so : (n p : ℕ) → checks ≡ refused n p → Answers (refuses n p) buffer filled
+  refused-so n p e = (
+    sym (ap (λ (o : Outcome). answer o (length (text (endState table schedule)))) e),
+    sym (ap (λ (o : Outcome). lentAfter o (text (endState table schedule)) buffer) e),
   )
 
-  pub run-given : (r : ℕ) (after : List ℕ) (s : Site) → s ≡ endState table schedule → runChecks table schedule buffer ≡ accepted
-      → r ≡ length (report table s) → after ≡ report table s ++ drop (length (report table s)) buffer
-      → (gives r ≡ runOf table schedule buffer .result) × (after ≡ runOf table schedule buffer .lent)
-  unfolding runOf
-  run-given r after s end e count bytes = (
-    ap gives (count ∙ ap (λ (t : Site). length (report table t)) end)
-        ∙ sym (ap (λ (o : Outcome). answer o (length (report table (endState table schedule)))) e),
-    bytes ∙ ap (λ (t : Site). report table t ++ drop (length (report table t)) buffer) end
-        ∙ sym (ap (λ (o : Outcome). lentAfter o (report table (endState table schedule)) buffer) e),
-  )
+  pub too-small : length buffer < room → Answers (refuses number 0) buffer filled
+  too-small h = refused-so number 0 (rw (lt-leb room (length buffer) h))
 
-  pub small-checks : length buffer < 2912 → runChecks table schedule buffer ≡ refused 10 0
-  small-checks h = rw (lt-leb 2912 (length buffer) h)
+  with-room : room ≤ length buffer → checks ≡ readyChecks table schedule
+  with-room h = rw (le-leb room (length buffer) h)
 
-  -- with room, the checks are ready's
-  pub run-checks : 2912 ≤ length buffer → runChecks table schedule buffer ≡ readyChecks table schedule
-  run-checks h = rw (le-leb 2912 (length buffer) h)
+  pub not-run : {n p : ℕ} → room ≤ length buffer → readyChecks table schedule ≡ refused n p → Answers (refuses n p) buffer filled
+  not-run {n} {p} h e = refused-so n p (with-room h ∙ e)
+
+  pub run-whole : (r : ℕ) (after : List ℕ) (s : Site) → room ≤ length buffer → readyChecks table schedule ≡ accepted → s ≡ endState table schedule
+      → r ≡ length (text s) → after ≡ text s ++ drop (length (text s)) buffer → Answers (gives r) after filled
+  run-whole r after s h e end count bytes =
+      let fine : checks ≡ accepted = with-room h ∙ e in (
+        ap gives (count ∙ ap (λ (t : Site). length (text t)) end) ∙ sym (ap (λ (o : Outcome). answer o (length (text (endState table schedule)))) fine),
+        bytes ∙ ap (λ (t : Site). text t ++ drop (length (text t)) buffer) end ∙ sym (ap (λ (o : Outcome). lentAfter o (text (endState table schedule)) buffer) fine),
+      )
+
+-- ---- ready
 
 module _ (table schedule : List ℕ) where
   pub ready-refused : (n p : ℕ) → readyChecks table schedule ≡ refused n p → refuses n p ≡ readyOf table schedule
@@ -66,46 +75,36 @@ module _ (table schedule : List ℕ) where
   ready-given a s end e right =
       ap gives (right ∙ ap (readyAnswer table) end) ∙ sym (ap (λ (o : Outcome). answer o (readyAnswer table (endState table schedule))) e)
 
--- an accepted schedule's end in arrays can be reported and asked
-module _ {table schedule comms log ends queues names : List ℕ} {r : Played} (ok : WellFormed table)
-    (fine : checkSchedule firstNumbers table schedule ≡ accepted) (E : Ended table schedule comms log ends queues names r) where
-  all-taken : taken (machine table) initial schedule ≡ true
-  all-taken = checks-taken table firstNumbers initial 0 schedule fine
+-- ---- an execution's end can be reported and laid out
 
-  position-small : (a : ℕ) → recordsOf (r .actors) a .position < 256
-  position-small a = subst (λ (s : Site). s .actor a .position < 256) (sym (E .site)) (go (which (ltb a (actorsOf table))))
-    where
-      go : (ltb a (actorsOf table) ≡ true) ⊎ (ltb a (actorsOf table) ≡ false) → endState table schedule .actor a .position < 256
-      go (inl h) =
-          let most = reached-end table schedule all-taken .position-most a in
-          let few = ok .actions-most a (ltb-true a (actorsOf table) h) in omega arith
-      go (inr h) = let none = reached-end table schedule all-taken .absent-still a (ltb-false a (actorsOf table) h) in omega arith
+module _ {table schedule comms log ends queues names : List ℕ} {actors : List Actor} (E : AtEnd table schedule comms log ends queues names actors) where
+  -- no report's length passes 2,912
+  pub report-small : length (report table (siteOf actors comms log ends queues)) ≤ 2912
+  report-small =
+      let fit = reports-fit table (E .promise) in
+      let small : length (report table (endState table schedule)) ≤ 2912 = omega (arith, fit .fits schedule (all-taken E), fit .room) in
+      subst (λ (s : Site). length (report table s) ≤ 2912) (sym (E .end .site)) small
 
-  pub reportable : (buffer : List ℕ) → 2912 ≤ length buffer → Reportable table (r .actors) comms log ends queues buffer
+  pub reportable : (buffer : List ℕ) → 2912 ≤ length buffer → Reportable table actors comms log ends queues buffer
   reportable buffer room =
       record {
-        accepted = ok;
-        positions = position-small;
-        mail-room = E .mail-room;
-        queue-room = E .queue-room;
-        room =
-            let fit = reports-fit table ok in
-            let small : length (report table (endState table schedule)) ≤ length buffer = omega (arith, fit .fits schedule all-taken, fit .room) in
-            subst (λ (s : Site). length (report table s) ≤ length buffer) (sym (E .site)) small;
+        accepted = E .promise;
+        positions = positions-small E;
+        mail-room = E .end .mail-room;
+        queue-room = E .end .queue-room;
+        room = omega (arith, report-small);
       }
 
-  -- no report's length passes 2,912
-  pub report-small : length (report table (siteOf (r .actors) comms log ends queues)) ≤ 2912
-  report-small =
-      let fit = reports-fit table ok in
-      let small : length (report table (endState table schedule)) ≤ 2912 = omega (arith, fit .fits schedule all-taken, fit .room) in
-      subst (λ (s : Site). length (report table s) ≤ 2912) (sym (E .site)) small
+  -- the page in the arrays is the end state's
+  pub page-held : pageFrom table actors comms queues ≡ page table (siteOf actors comms log ends queues)
+  page-held = sym (page-from table actors comms queues log ends)
 
-  pub answerable : Answerable table (r .actors) comms queues
-  answerable =
-      record {
-        accepted = ok;
-        actors-long = E .actors-long;
-        comms-room = E .mail-room .comms-room;
-        queue-room = E .queue-room;
-      }
+  -- of a file of bytes, no page's length passes 816
+  pub page-small : ((j : ℕ) → byteAt table j < 256) → length (pageFrom table actors comms queues) ≤ 816
+  page-small bytes =
+      let shape = page-shape table (E .promise) (endState table schedule) (reached-end table schedule (all-taken E) .position-most) (small-end table bytes schedule) in
+      subst (λ (l : List ℕ). length l ≤ 816) (sym (page-held ∙ ap (page table) (E .end .site))) (shape .page-most)
+
+  pub pageable : ((j : ℕ) → byteAt table j < 256) → (buffer : List ℕ) → 816 ≤ length buffer → Pageable table actors comms queues buffer
+  pageable bytes buffer room =
+      record { answerable = answerable E; positions = positions-small E; room = omega (arith, page-small bytes) }

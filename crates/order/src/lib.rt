@@ -1,37 +1,33 @@
-// The public calls: run, ready, pair, same and route. Each answers for every input, and none has a `requires`.
+// The public calls: run, page, ready, pair, same and route. Each answers for every input, and none has a `requires`.
 ghost use mathlib.Core.Path.{_≡_};
 ghost use Prim.Native.Nat.{_≤_};
 ghost use Rattle.model.specs.Calls.{inTable, runOf, readyOf, pairOf, sameOf};
+ghost use Rattle.model.specs.Page.{pageOf};
 ghost use Rattle.model.specs.Route.{mostExchanges, RightRoute};
 ghost use Rattle.model.specs.Site.{name};
-ghost use Rattle.answers.specs.Answers.{runResult, readyResult, pairResult, sameResult, routeResult};
+ghost use Rattle.answers.specs.Answers.{lengthResult, readyResult, pairResult, sameResult};
+use answers::LengthAnswer;
 use answers::PairAnswer;
 use answers::ReadyAnswer;
 use answers::Refusal;
-use answers::RouteAnswer;
-use answers::RunAnswer;
 use answers::SameAnswer;
-use play::Halt;
+use execution::Course;
 use table::Reading;
 
 // Runs a schedule from a fresh site and writes the state report of its end into the lent bytes.
-pub fn run(table: &[u8], schedule: &[u8], report: &mut [u8]) -> RunAnswer
-    ensures answer { λ r. ⌜ runResult r ≡ runOf (now (table .entry)) (now (schedule .entry)) (now (report .entry)) .result ⌝ }
+pub fn run(table: &[u8], schedule: &[u8], report: &mut [u8]) -> LengthAnswer
+    ensures answer { λ r. ⌜ lengthResult r ≡ runOf (now (table .entry)) (now (schedule .entry)) (now (report .entry)) .result ⌝ }
     ensures lent { λ r. ⌜ now (report .exit) ≡ runOf (now (table .entry)) (now (schedule .entry)) (now (report .entry)) .lent ⌝ }
 {
     if report.len() < 2912 {
-        return RunAnswer::Refused(Refusal::ReportRoom);
+        return LengthAnswer::Refused(Refusal::ReportRoom);
     }
-    let reading = reader::read(table);
-    let Reading::Valid = reading else {
-        return RunAnswer::Refused(Refusal::Table(reading));
-    };
     let mut comms = [0u64; 256];
     let mut log = [0u8; 4096];
     let mut ends = [0usize; 32];
     let mut queues = [0u8; 72];
     let mut names = [0u8; 256];
-    let played = play::play(
+    let execution = execution::execute(
         table,
         schedule,
         &mut comms,
@@ -40,14 +36,47 @@ pub fn run(table: &[u8], schedule: &[u8], report: &mut [u8]) -> RunAnswer
         &mut queues,
         &mut names,
     );
-    let halt = played.halt;
-    match halt {
-        Halt::End => {
-            let actors = played.actors;
+    let course = execution.course;
+    match course {
+        Course::End => {
+            let actors = execution.actors;
             let n = report::write(table, actors, &comms, &log, &ends, &queues, report);
-            RunAnswer::Written(n as u32)
+            LengthAnswer::Length(n as u32)
         }
-        Halt::At(stop) => RunAnswer::Refused(Refusal::First(stop)),
+        Course::Refused(refusal) => LengthAnswer::Refused(refusal),
+    }
+}
+
+// Runs a schedule from a fresh site and lays out the page of its end in the lent bytes.
+pub fn page(table: &[u8], schedule: &[u8], buffer: &mut [u8]) -> LengthAnswer
+    ensures answer { λ r. ⌜ lengthResult r ≡ pageOf (now (table .entry)) (now (schedule .entry)) (now (buffer .entry)) .result ⌝ }
+    ensures lent { λ r. ⌜ now (buffer .exit) ≡ pageOf (now (table .entry)) (now (schedule .entry)) (now (buffer .entry)) .lent ⌝ }
+{
+    if buffer.len() < 816 {
+        return LengthAnswer::Refused(Refusal::PageRoom);
+    }
+    let mut comms = [0u64; 256];
+    let mut log = [0u8; 4096];
+    let mut ends = [0usize; 32];
+    let mut queues = [0u8; 72];
+    let mut names = [0u8; 256];
+    let execution = execution::execute(
+        table,
+        schedule,
+        &mut comms,
+        &mut log,
+        &mut ends,
+        &mut queues,
+        &mut names,
+    );
+    let course = execution.course;
+    match course {
+        Course::End => {
+            let actors = execution.actors;
+            let n = page::write(table, actors, &comms, &queues, buffer);
+            LengthAnswer::Length(n as u32)
+        }
+        Course::Refused(refusal) => LengthAnswer::Refused(refusal),
     }
 }
 
@@ -55,16 +84,12 @@ pub fn run(table: &[u8], schedule: &[u8], report: &mut [u8]) -> RunAnswer
 pub fn ready(table: &[u8], schedule: &[u8]) -> ReadyAnswer
     ensures { λ r. ⌜ readyResult r ≡ readyOf (now (table .entry)) (now (schedule .entry)) ⌝ }
 {
-    let reading = reader::read(table);
-    let Reading::Valid = reading else {
-        return ReadyAnswer::Refused(Refusal::Table(reading));
-    };
     let mut comms = [0u64; 256];
     let mut log = [0u8; 4096];
     let mut ends = [0usize; 32];
     let mut queues = [0u8; 72];
     let mut names = [0u8; 256];
-    let played = play::play(
+    let execution = execution::execute(
         table,
         schedule,
         &mut comms,
@@ -73,13 +98,13 @@ pub fn ready(table: &[u8], schedule: &[u8]) -> ReadyAnswer
         &mut queues,
         &mut names,
     );
-    let halt = played.halt;
-    match halt {
-        Halt::End => {
-            let actors = played.actors;
+    let course = execution.course;
+    match course {
+        Course::End => {
+            let actors = execution.actors;
             ReadyAnswer::Now(readiness::answer(table, actors, &comms, &queues))
         }
-        Halt::At(stop) => ReadyAnswer::Refused(Refusal::First(stop)),
+        Course::Refused(refusal) => ReadyAnswer::Refused(refusal),
     }
 }
 
@@ -128,8 +153,8 @@ pub fn same(table: &[u8], first: &[u8], second: &[u8]) -> SameAnswer
 }
 
 // Writes a route from the first schedule to the second into the lent entries: a chain of exchanges, each by its position.
-pub fn route(table: &[u8], first: &[u8], second: &[u8], route: &mut [u16]) -> RouteAnswer
-    ensures { λ r. ⌜ RightRoute (now (table .entry)) (now (first .entry)) (now (second .entry)) (now (route .entry)) (now (route .exit)) (routeResult r) ⌝ }
+pub fn route(table: &[u8], first: &[u8], second: &[u8], route: &mut [u16]) -> LengthAnswer
+    ensures { λ r. ⌜ RightRoute (now (table .entry)) (now (first .entry)) (now (second .entry)) (now (route .entry)) (now (route .exit)) (lengthResult r) ⌝ }
 {
     let mut names = [0u8; 256];
     let mut others = [0u8; 256];
@@ -138,13 +163,13 @@ pub fn route(table: &[u8], first: &[u8], second: &[u8], route: &mut [u16]) -> Ro
         SameAnswer::Same => {
             let m = first.len();
             if route.len() < most_exchanges(m) {
-                return RouteAnswer::Refused(Refusal::RouteRoom);
+                return LengthAnswer::Refused(Refusal::RouteRoom);
             }
             let n = routing::route(&names, &others, m, route);
-            RouteAnswer::Length(n as u32)
+            LengthAnswer::Length(n as u32)
         }
-        SameAnswer::Different => RouteAnswer::Refused(Refusal::Different),
-        SameAnswer::Refused(refusal) => RouteAnswer::Refused(refusal),
+        SameAnswer::Different => LengthAnswer::Refused(Refusal::Different),
+        SameAnswer::Refused(refusal) => LengthAnswer::Refused(refusal),
     }
 }
 
