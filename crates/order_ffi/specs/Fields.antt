@@ -6,15 +6,15 @@ use mathlib.Core.List.{List}
 use Rattle.model.specs.Ready.{Ending, finished, stuck, going, ReadyAnswer}
 use Rattle.model.specs.Calls.{Result, gives, refuses, PairVerdict, independent, dependent, SameVerdict, same, different}
 use Rattle.model.specs.Route.{RightRoute}
-use Rattle.order_ffi.specs.declared.OrderRun.{OrderRun}
+use Rattle.order_ffi.specs.declared.OrderLength.{OrderLength}
 use Rattle.order_ffi.specs.declared.OrderReady.{OrderReady}
 use Rattle.order_ffi.specs.declared.OrderPair.{OrderPair}
 use Rattle.order_ffi.specs.declared.OrderSame.{OrderSame}
-use Rattle.order_ffi.specs.declared.OrderRoute.{OrderRoute}
 
-abbrev pub runFields : Result ℕ → OrderRun
-runFields (gives length) = record { refusal = 0; position = 0; length = length }
-runFields (refuses number position) = record { refusal = number; position = position; length = 0 }
+-- of run, page and route
+abbrev pub lengthFields : Result ℕ → OrderLength
+lengthFields (gives length) = record { refusal = 0; position = 0; length = length }
+lengthFields (refuses number position) = record { refusal = number; position = position; length = 0 }
 
 abbrev pub endingNumber : Ending → ℕ
 endingNumber finished = 0
@@ -41,10 +41,6 @@ abbrev pub sameFields : Result SameVerdict → OrderSame
 sameFields (gives v) = record { refusal = 0; position = 0; verdict = sameNumber v }
 sameFields (refuses number position) = record { refusal = number; position = position; verdict = 0 }
 
-abbrev pub routeFields : Result ℕ → OrderRoute
-routeFields (gives length) = record { refusal = 0; position = 0; length = length }
-routeFields (refuses number position) = record { refusal = number; position = position; length = 0 }
-
 -- the fields of a right answer of the route call, with the buffer before and after it
-abbrev pub RightFields : (table first second before after : List ℕ) → OrderRoute → Type 0
-RightFields table first second before after r = (result : Result ℕ) × RightRoute table first second before after result × (r ≡ routeFields result)
+abbrev pub RightFields : (table first second before after : List ℕ) → OrderLength → Type 0
+RightFields table first second before after r = (result : Result ℕ) × RightRoute table first second before after result × (r ≡ lengthFields result)

@@ -4,14 +4,14 @@ ghost use Rattle.table.specs.Outcome.{numberOf, positionOf};
 ghost use Rattle.table.specs.Read.{readOf};
 ghost use Rattle.model.specs.Site.{name};
 ghost use Rattle.model.specs.Calls.{gives, runOf, readyOf, pairOf, sameOf};
-ghost use Rattle.answers.specs.Answers.{readinessOf, endingAs};
-ghost use Rattle.order_ffi.specs.Fields.{runFields, readyFields, endingNumber, pairFields, sameFields, RightFields};
+ghost use Rattle.model.specs.Page.{pageOf};
+ghost use Rattle.answers.specs.Answers.{lengthResult, readinessOf, endingAs};
+ghost use Rattle.order_ffi.specs.Fields.{lengthFields, readyFields, endingNumber, pairFields, sameFields, RightFields};
 use answers::Ending;
+use answers::LengthAnswer;
 use answers::PairAnswer;
 use answers::Readiness;
 use answers::ReadyAnswer;
-use answers::RouteAnswer;
-use answers::RunAnswer;
 use answers::SameAnswer;
 
 // The refusal's number and position; 0 and 0 where the table is accepted.
@@ -33,33 +33,47 @@ pub extern "C" fn order_check(table: &[u8]) -> OrderCheck
     }
 }
 
-// The refusal, or the length of the report that was written. What does not apply is 0.
+// The refusal, or the length of what was written. What does not apply is 0.
 #[repr(C)]
-pub struct OrderRun {
+pub struct OrderLength {
     pub refusal: u32,
     pub position: u32,
     pub length: u32,
 }
 
-// Runs a schedule from a fresh site and writes the state report of its end.
-#[no_mangle]
-pub extern "C" fn order_run(table: &[u8], schedule: &[u8], report: &mut [u8]) -> OrderRun
-    ensures answer { λ r. ⌜ r ≡ runFields (runOf (now (table .entry)) (now (schedule .entry)) (now (report .entry)) .result) ⌝ }
-    ensures lent { λ r. ⌜ now (report .exit) ≡ runOf (now (table .entry)) (now (schedule .entry)) (now (report .entry)) .lent ⌝ }
+fn length(answer: LengthAnswer) -> OrderLength
+    ensures { λ r. ⌜ r ≡ lengthFields (lengthResult answer) ⌝ }
 {
-    let answer = order::run(table, schedule, report);
     match answer {
-        RunAnswer::Written(n) => OrderRun {
+        LengthAnswer::Length(n) => OrderLength {
             refusal: 0,
             position: 0,
             length: n,
         },
-        RunAnswer::Refused(r) => OrderRun {
+        LengthAnswer::Refused(r) => OrderLength {
             refusal: r.number(),
             position: r.position(),
             length: 0,
         },
     }
+}
+
+// Runs a schedule from a fresh site and writes the state report of its end.
+#[no_mangle]
+pub extern "C" fn order_run(table: &[u8], schedule: &[u8], report: &mut [u8]) -> OrderLength
+    ensures answer { λ r. ⌜ r ≡ lengthFields (runOf (now (table .entry)) (now (schedule .entry)) (now (report .entry)) .result) ⌝ }
+    ensures lent { λ r. ⌜ now (report .exit) ≡ runOf (now (table .entry)) (now (schedule .entry)) (now (report .entry)) .lent ⌝ }
+{
+    length(order::run(table, schedule, report))
+}
+
+// Runs a schedule from a fresh site and lays out the page of its end.
+#[no_mangle]
+pub extern "C" fn order_page(table: &[u8], schedule: &[u8], buffer: &mut [u8]) -> OrderLength
+    ensures answer { λ r. ⌜ r ≡ lengthFields (pageOf (now (table .entry)) (now (schedule .entry)) (now (buffer .entry)) .result) ⌝ }
+    ensures lent { λ r. ⌜ now (buffer .exit) ≡ pageOf (now (table .entry)) (now (schedule .entry)) (now (buffer .entry)) .lent ⌝ }
+{
+    length(order::page(table, schedule, buffer))
 }
 
 // The refusal, or the ready answer. What does not apply is 0.
@@ -185,14 +199,6 @@ pub extern "C" fn order_same(table: &[u8], first: &[u8], second: &[u8]) -> Order
     }
 }
 
-// The refusal, or the length of the route that was written. What does not apply is 0.
-#[repr(C)]
-pub struct OrderRoute {
-    pub refusal: u32,
-    pub position: u32,
-    pub length: u32,
-}
-
 // Writes a route from the first schedule to the second: a chain of exchanges, each by its position.
 #[no_mangle]
 pub extern "C" fn order_route(
@@ -200,20 +206,8 @@ pub extern "C" fn order_route(
     first: &[u8],
     second: &[u8],
     route: &mut [u16],
-) -> OrderRoute
+) -> OrderLength
     ensures { λ r. ⌜ RightFields (now (table .entry)) (now (first .entry)) (now (second .entry)) (now (route .entry)) (now (route .exit)) r ⌝ }
 {
-    let answer = order::route(table, first, second, route);
-    match answer {
-        RouteAnswer::Length(n) => OrderRoute {
-            refusal: 0,
-            position: 0,
-            length: n,
-        },
-        RouteAnswer::Refused(r) => OrderRoute {
-            refusal: r.number(),
-            position: r.position(),
-            length: 0,
-        },
-    }
+    length(order::route(table, first, second, route))
 }
