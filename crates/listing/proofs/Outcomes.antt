@@ -7,7 +7,6 @@ use native.Mathlib.Nat.{min-le-right}
 use native.Mathlib.Omega.{arith}
 use lib.ListN.{length, take, drop, replicate, length-map, length-take}
 use Rattle.table.specs.Outcome.{Outcome, accepted, refused}
-use Rattle.table.specs.Promise.{WellFormed}
 use Rattle.trace.specs.Machine.{Name}
 use Rattle.trace.specs.Schedule.{names}
 use Rattle.trace.proofs.Run.{names-length}
@@ -19,11 +18,8 @@ use Rattle.model.specs.Text.{line}
 use Rattle.model.specs.Listing.{endText, refusedText, stepLines, runLines, linesOf, listingOf, tableRead, scheduleRead}
 use Rattle.model.proofs.Beginnings.{beginnings-decide}
 use Rattle.names.specs.InByte.{nameOf}
-use Rattle.play.specs.Parts.{Ended}
 use Rattle.answers.specs.Answers.{endingAs, readinessOf}
-use Rattle.readiness.specs.Parts.{Answerable}
 use Rattle.writing.specs.Written.{Wrote}
-use Rattle.play.specs.declared.Played.{Played}
 use Rattle.answers.specs.declared.Readiness.{Readiness}
 use Rattle.listing.specs.declared.Listing.{Listing}
 use Rattle.listing.specs.Laid.{Laid}
@@ -58,17 +54,6 @@ module _ (table schedule e b : List ℕ) (r : ℕ) where
       ∙ ap (λ (x : Ending). stepLines (names (machine table) initial schedule) ++ line (endText x)) last
       ∙ sym (ap (λ (o : Outcome). linesOf o (runLines table schedule)) c) in
       subst (λ (l : List ℕ). Wrote e l b r) right w
-
--- the end state in arrays can be asked
-pub answerable : {table schedule comms log ends queues held : List ℕ} {r : Played} → WellFormed table
-    → Ended table schedule comms log ends queues held r → Answerable table (r .actors) comms queues
-answerable ok E =
-    record {
-      accepted = ok;
-      actors-long = E .actors-long;
-      comms-room = E .mail-room .comms-room;
-      queue-room = E .queue-room;
-    }
 
 -- the names of all steps are held
 pub held-long : (table schedule held : List ℕ) → map nameOf (take (length schedule) held) ≡ names (machine table) initial schedule → length schedule ≤ length held

@@ -6,8 +6,7 @@ ghost use lib.ListN.{length, take};
 ghost use Rattle.model.specs.Listing.{listingOf, tableRead, scheduleRead};
 ghost use Rattle.writing.specs.Written.{Wrote};
 ghost use Rattle.listing.specs.Laid.{Laid};
-use play::Halt;
-use table::Reading;
+use execution::Course;
 
 // A listing: the first `length` of the bytes. No listing is longer: 256 steps take at most 5 bytes each, the ending at most 13.
 pub struct Listing {
@@ -33,16 +32,12 @@ fn write(table: &[u8], schedule: &[u8], out: &mut [u8]) -> usize
     ensures { λ r. ⌜ Wrote (now (out .entry)) (listingOf (now (table .entry)) (now (schedule .entry))) (now (out .exit)) r ⌝ }
     ensures { λ r. ⌜ r ≤ 1293 ⌝ }
 {
-    let reading = reader::read(table);
-    let Reading::Valid = reading else {
-        return lines::refused(reading.number(), reading.position(), out);
-    };
     let mut comms = [0u64; 256];
     let mut log = [0u8; 4096];
     let mut ends = [0usize; 32];
     let mut queues = [0u8; 72];
     let mut names = [0u8; 256];
-    let played = play::play(
+    let execution = execution::execute(
         table,
         schedule,
         &mut comms,
@@ -51,14 +46,14 @@ fn write(table: &[u8], schedule: &[u8], out: &mut [u8]) -> usize
         &mut queues,
         &mut names,
     );
-    let halt = played.halt;
-    match halt {
-        Halt::End => {
-            let actors = played.actors;
+    let course = execution.course;
+    match course {
+        Course::End => {
+            let actors = execution.actors;
             let readiness = readiness::answer(table, actors, &comms, &queues);
             let ending = readiness.ending;
             lines::run(&names, schedule.len(), ending, out)
         }
-        Halt::At(stop) => lines::refused(stop.first_number(), stop.position(), out),
+        Course::Refused(refusal) => lines::refused(refusal.number(), refusal.position(), out),
     }
 }
