@@ -49,10 +49,12 @@ module _ (a : ℕ) (r : Actor) (status : Status) where
       let position : length (right 2 (decimal (r .position))) ≡ 2 = length-right 2 (decimal (r .position)) two in
       let word : length (left 8 (statusWord status)) ≡ 8 = word-long status in
       let cells : length (cellsText (r .cells)) ≡ 88 = cells-long (r .cells) ten in
-      omega (arith,
+      omega (
+        arith,
         length-append (right 1 (decimal a)) ((space ∷ right 2 (decimal (r .position))) ++ ((space ∷ left 8 (statusWord status)) ++ cellsText (r .cells))),
         length-append (space ∷ right 2 (decimal (r .position))) ((space ∷ left 8 (statusWord status)) ++ cellsText (r .cells)),
-        length-append (space ∷ left 8 (statusWord status)) (cellsText (r .cells)))
+        length-append (space ∷ left 8 (statusWord status)) (cellsText (r .cells)),
+      )
 
   text-printed : printable (actorText a r status) ≡ true
   text-printed =
@@ -84,7 +86,7 @@ module _ (table : List ℕ) (ok : WellFormed table) (s : Site) (most : (a : ℕ)
   unfolding page
   page-shape =
       let long = equal-parts (λ a. line (actorText a (s .actor a) (statusOf table s a))) 102 (actorsOf table) 0
-          (λ a l h. length-append (actorText a (s .actor a) (statusOf table s a)) (10 ∷ []) ∙ ap (λ (n : ℕ). n + 1) (line-shape a (omega arith) .line-long)) in
+      (λ a l h. length-append (actorText a (s .actor a) (statusOf table s a)) (10 ∷ []) ∙ ap (λ (n : ℕ). n + 1) (line-shape a (omega arith) .line-long)) in
       record { lines = line-shape; page-long = long; page-most = omega (arith, long, ok .actors-most) }
 
 pub pages-shaped : PagesShaped

@@ -49,8 +49,8 @@ module _ (table : List ℕ) (actors : List Actor) (comms queues : List ℕ) wher
   page-from log ends =
       parts-same _ _ (actorsOf table) 0
       (λ a l h.
-          ap (λ (t : Status). line (actorText a (recordsOf actors a) t))
-          (status-from log ends a (omega arith) ∙ sym (status-from [] [] a (omega arith))))
+      ap (λ (t : Status). line (actorText a (recordsOf actors a) t))
+      (status-from log ends a (omega arith) ∙ sym (status-from [] [] a (omega arith))))
 
   -- line by line
   abbrev pub lineFrom : ℕ → List ℕ

@@ -94,7 +94,7 @@ fn cells_part(cells: [u32; 8], buf: &mut [u8]) -> usize
     let mut c = 0;
     while c < 8 {
         let x = cells[c];
-        at += text::column(b" ", 10, x, &mut buf[at..]);
+        at += text::ten_columns(x, &mut buf[at..]);
         c += 1;
     }
     at

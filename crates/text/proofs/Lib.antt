@@ -1,2 +1,3 @@
 -- What text is written as.
 pub mod Digits
+pub mod Filling

@@ -1,6 +1,6 @@
 // Text at the front of a lent part: bytes, numbers in decimal, in columns, and both. Each writer answers with the length of what it wrote.
 ghost use mathlib.Core.Path.{_≡_};
-ghost use mathlib.Core.List.{_++_};
+ghost use mathlib.Core.List.{_∷_, _++_};
 ghost use Prim.Native.Nat.{_+_, _-_, _<_, _≤_};
 ghost use lib.ListN.{length, replicate};
 ghost use Rattle.model.specs.Text.{decimal as decimalOf, digit as digitOf, right as rightOf, space, line};
@@ -40,6 +40,23 @@ pub fn right(columns: usize, x: u32, buf: &mut [u8]) -> usize
     let at = right(front, x / 10, buf);
     buf[at] = digit(x % 10);
     at + 1
+}
+
+// A space, and a number at the right of ten columns: every number of 32 bits fits.
+pub fn ten_columns(x: u32, buf: &mut [u8]) -> usize
+    requires { ⌜ length (space ∷ rightOf 10 (decimalOf x)) ≤ length (now buf) ⌝ }
+    ensures { λ r. ⌜ Wrote (now (buf .entry)) (space ∷ rightOf 10 (decimalOf x)) (now (buf .exit)) r ⌝ }
+{
+    let end = spaces(11, buf);
+    let mut rest = x;
+    let mut i = 10;
+    while 10 <= rest {
+        buf[i] = digit(rest % 10);
+        rest = rest / 10;
+        i -= 1;
+    }
+    buf[i] = digit(rest);
+    end
 }
 
 fn one_less(n: usize) -> usize

@@ -13,10 +13,10 @@ abbrev cell : List ℕ → ℕ → List ℕ
 cell cells c = space ∷ right 10 (decimal (getD cells c 0))
 
 abbrev Inv-loop : tie.InvT-loop
-Inv-loop buf₀ cells at₀ c₀ t7 buf at c = Turn (cell cells) 8 buf₀ c buf at
+Inv-loop buf₀ cells at₀ c₀ buf at c = Turn (cell cells) 8 buf₀ c buf at
 
 abbrev μ-loop : tie.MeasureT-loop
-μ-loop buf₀ cells at₀ c₀ t7 buf at c = 8 - c
+μ-loop buf₀ cells at₀ c₀ buf at c = 8 - c
 
 loop-holds : tie.Need-loop-holds Inv-loop μ-loop
 loop-holds c = first-turn (c .before .pre)
@@ -27,25 +27,22 @@ mul-x c = search needs
 array-read-x : tie.Need-array-read-x Inv-loop μ-loop
 array-read-x c = search needs
 
-slice-aggregate-column : tie.Need-slice-aggregate-column Inv-loop μ-loop
-slice-aggregate-column c = search needs
+sub-ten-columns : tie.Need-sub-ten-columns Inv-loop μ-loop
+sub-ten-columns c = next-at (c .before .loop .inv) (c .loop-test .taken)
 
-sub-column : tie.Need-sub-column Inv-loop μ-loop
-sub-column c = next-at (c .before .before .loop .inv) (c .before .loop-test .taken)
+part-ten-columns-start : tie.Need-part-ten-columns-start Inv-loop μ-loop
+part-ten-columns-start c = next-at (c .before .loop .inv) (c .loop-test .taken)
 
-part-column-start : tie.Need-part-column-start Inv-loop μ-loop
-part-column-start c = next-at (c .before .before .loop .inv) (c .before .loop-test .taken)
+part-ten-columns-end : tie.Need-part-ten-columns-end Inv-loop μ-loop
+part-ten-columns-end c = search needs
 
-part-column-end : tie.Need-part-column-end Inv-loop μ-loop
-part-column-end c = search needs
-
-column-requires : tie.Need-column-requires Inv-loop μ-loop
-column-requires c κs = next-room (c .before .before .before .loop .inv) (c .before .before .loop-test .taken)
+ten-columns-requires : tie.Need-ten-columns-requires Inv-loop μ-loop
+ten-columns-requires c κs = next-room (c .before .before .loop .inv) (c .before .loop-test .taken)
 
 add-at : tie.Need-add-at Inv-loop μ-loop
 add-at c =
-    let t = c .before .before .before .before .before in
-    omega (arith, next-sum (t .before .loop .inv) (t .loop-test .taken) (c .before .before .column .ensures .0))
+    let t = c .before .before .before .before in
+    omega (arith, next-sum (t .before .loop .inv) (t .loop-test .taken) (c .before .before .ten-columns .ensures .0))
 
 add-c : tie.Need-add-c Inv-loop μ-loop
 add-c c = search needs
@@ -55,8 +52,8 @@ loop-less c = search needs
 
 loop-again : tie.Need-loop-again Inv-loop μ-loop
 loop-again c =
-    let t = c .before .before .before .before .before in
-    next-turn (t .before .loop .inv) (t .loop-test .taken) (c .before .before .column .ensures)
+    let t = c .before .before .before .before in
+    next-turn (t .before .loop .inv) (t .loop-test .taken) (c .before .before .ten-columns .ensures)
 
 same-length : tie.Need-same-length Inv-loop μ-loop
 same-length c = all-length (c .before .loop .inv) (c .loop-test .left)
@@ -73,11 +70,10 @@ cells-part-spec =
     loop-holds
     mul-x
     array-read-x
-    slice-aggregate-column
-    sub-column
-    part-column-start
-    part-column-end
-    column-requires
+    sub-ten-columns
+    part-ten-columns-start
+    part-ten-columns-end
+    ten-columns-requires
     add-at
     add-c
     loop-less
