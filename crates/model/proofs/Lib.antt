@@ -52,6 +52,6 @@ pub mod Cases
 pub mod Examples
 pub mod Reports
 pub mod Corners
-pub mod Pages
+pub mod PageExamples
 pub mod Listings
 pub mod Forecourt

@@ -29,6 +29,6 @@ pub mod Cases
 pub mod Examples
 pub mod Reports
 pub mod Corners
-pub mod Pages
+pub mod PageExamples
 pub mod Listings
 pub mod Forecourt

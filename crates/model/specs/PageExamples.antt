@@ -1,4 +1,4 @@
--- Pages at given inputs: every status, numbers at the edges of their columns, and the order of the call's refusals. `proofs/Pages.antt` computes
+-- Pages at given inputs: every status, numbers at the edges of their columns, and the order of the call's refusals. `proofs/PageExamples.antt` computes
 -- them.
 -- Assumes nothing: these are definitions.
 use Prim.Native.Nat.{ℕ}
