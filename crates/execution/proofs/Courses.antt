@@ -9,7 +9,6 @@ use Rattle.model.specs.Calls.{readyChecks}
 use Rattle.answers.specs.declared.Refusal.{Refusal}
 use Rattle.answers.specs.Answers.{refusalOf}
 use Rattle.state.specs.declared.Actor.{Actor}
-use Rattle.execution.specs.declared.Course.{Course}
 use Rattle.execution.specs.declared.Course.the-variants.{End, Refused}
 use Rattle.execution.specs.Parts.{AtEnd, Executed}
 

@@ -11,16 +11,13 @@ use lib.ListN.{length, replicate, length-append, length-replicate}
 use Rattle.trace.specs.Order.{has}
 use Rattle.trace.proofs.Bools.{both, and-left, and-right}
 use Rattle.model.specs.Report.{parts}
-use Rattle.model.specs.Text.{digit, digits, decimal, space, left, right, lineFeed}
+use Rattle.model.specs.Text.{digit, digits, decimal, space, right, lineFeed}
 use Rattle.model.specs.PageShape.{printable}
 
 -- ---- lengths
 
 pub length-right : (columns : ℕ) (text : List ℕ) → length text ≤ columns → length (right columns text) ≡ columns
 length-right columns text h = simp (length-append, length-replicate) (omega arith)
-
-pub length-left : (columns : ℕ) (text : List ℕ) → length text ≤ columns → length (left columns text) ≡ columns
-length-left columns text h = simp (length-append, length-replicate) (omega arith)
 
 -- ---- printed
 
@@ -50,9 +47,6 @@ printed-spaces (suc n) = printed-spaces n
 
 pub printed-right : (columns : ℕ) (text : List ℕ) → printable text ≡ true → printable (right columns text) ≡ true
 printed-right columns text h = printed-append (replicate (columns - length text) space) text (printed-spaces (columns - length text)) h
-
-pub printed-left : (columns : ℕ) (text : List ℕ) → printable text ≡ true → printable (left columns text) ≡ true
-printed-left columns text h = printed-append text (replicate (columns - length text) space) h (printed-spaces (columns - length text))
 
 pub printed-parts : (f : ℕ → List ℕ) (n k : ℕ) → ((j : ℕ) → printable (f j) ≡ true) → printable (parts f n k) ≡ true
 printed-parts f zero k h = refl

@@ -1,6 +1,6 @@
 -- The shape of a page: each number fits its columns, so each line has 101 characters, and the page 102 bytes an actor.
 -- Assumes nothing.
-use Prim.Native.Nat.{ℕ, suc, _+_, _*_, _<_, _≤_}
+use Prim.Native.Nat.{ℕ, suc, _+_, _<_, _≤_}
 use native.Mathlib.Omega.{arith}
 use mathlib.Core.Path.{_≡_, refl, _∙_, ap}
 use mathlib.Core.Bool.{true}
@@ -14,12 +14,10 @@ use Rattle.model.specs.Schedule.{endState}
 use Rattle.model.specs.Text.{decimal, space, left, right, line}
 use Rattle.model.specs.Page.{Status, ready, waits, finished, statusOf, statusWord, cellsText, actorText, page}
 use Rattle.model.specs.PageShape.{printable, LineShape, PageShape, PagesShaped}
-use Rattle.model.specs.Determined.{Bytes}
-use Rattle.model.specs.Demand3.{Accepted}
 use Rattle.model.proofs.Decimal.{decimal-small, decimal-most, ten-digits}
-use Rattle.model.proofs.Columns.{length-right, length-left, printed-append, printed-decimal, printed-right, printed-left, printed-parts, no-feed}
+use Rattle.model.proofs.Columns.{length-right, printed-append, printed-decimal, printed-right, printed-parts, no-feed}
 use Rattle.model.proofs.Parts.{equal-parts}
-use Rattle.model.proofs.ReportBoundValues.{SmallCells, SmallSite, small-end}
+use Rattle.model.proofs.ReportBoundValues.{SmallSite, small-end}
 use Rattle.model.proofs.Reached.{reached-end}
 
 -- ---- an actor's line

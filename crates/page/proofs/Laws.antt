@@ -3,15 +3,13 @@
 use mathlib.Core.Path.{_≡_, refl, _∙_, ap, sym}
 use mathlib.Core.Bool.{Bool, not, _&&_, _||_, cond}
 use mathlib.Core.List.{List, []}
-use Prim.Native.Nat.{ℕ, _<_, _≤_}
+use Prim.Native.Nat.{ℕ, _<_}
 use native.Mathlib.Omega.{arith}
 use lib.Dec.{ltb}
 use lib.ListN.{getD}
 use Rattle.table.specs.Format.{actorsOf, countOf}
-use Rattle.model.specs.Site.{Site}
 use Rattle.model.specs.Views.{Look, blind, communications, mutexes, looks, waits}
 use Rattle.model.specs.Local.{Seen, isSeen, see}
-use Rattle.model.specs.Step.{passes}
 use Rattle.model.specs.Report.{parts}
 use Rattle.model.specs.Text.{line}
 use Rattle.model.specs.Page.{Status, ready, waits as waiting, finished, statusOf, actorText, page}

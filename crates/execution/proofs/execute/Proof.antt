@@ -1,5 +1,5 @@
 -- `execution::execute` meets its contract: the reader's checks, then the schedule's. Assumes nothing.
-use mathlib.Core.Path.{refl, sym, _∙_, ap}
+use mathlib.Core.Path.{sym, _∙_, ap}
 use borrow.Author.Needs.{needs}
 use Rattle.table.specs.Answer.{outcome}
 use Rattle.table.specs.Read.{readOf}

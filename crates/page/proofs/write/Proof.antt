@@ -1,10 +1,10 @@
 -- `page::write` meets its contract. The loop's invariant: the lines of the first a actors are written. Assumes nothing.
 use mathlib.Core.Path.{_≡_}
-use mathlib.Core.List.{List, []}
-use Prim.Native.Nat.{ℕ, _-_, _<_}
+use mathlib.Core.List.{[]}
+use Prim.Native.Nat.{_-_, _<_}
 use native.Mathlib.Omega.{arith}
 use borrow.Author.Needs.{needs}
-use lib.ListN.{length, getD}
+use lib.ListN.{getD}
 use Rattle.model.specs.Text.{line}
 use Rattle.model.specs.Page.{actorText}
 use Rattle.state.specs.declared.Actor.{Actor}

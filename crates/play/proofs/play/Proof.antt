@@ -1,6 +1,6 @@
 -- `play::play` meets its contract. The loop's invariant: the arrays hold the state that the first i entries have left, and all of them were ready.
 -- Assumes nothing.
-use mathlib.Core.Path.{_≡_, refl, _∙_, ap, sym}
+use mathlib.Core.Path.{_≡_, _∙_, ap, sym}
 use mathlib.Core.List.{[]}
 use Prim.Native.Nat.{ℕ, _-_}
 use native.Mathlib.Omega.{arith}

@@ -1,10 +1,10 @@
 -- `text::spaces` meets its contract. The loop's invariant: the first i spaces are written. Assumes nothing.
-use Prim.Native.Nat.{ℕ, _+_, _-_, _<_, _≤_}
-use mathlib.Core.Path.{_≡_, subst, sym}
+use Prim.Native.Nat.{ℕ, _+_, _-_, _<_}
+use mathlib.Core.Path.{subst}
 use mathlib.Core.List.{List}
 use native.Mathlib.Omega.{arith}
 use borrow.Author.Needs.{needs}
-use lib.ListN.{length, set, replicate, length-replicate, getD-replicate}
+use lib.ListN.{set, replicate, length-replicate, getD-replicate}
 use Rattle.model.specs.Text.{space}
 use Rattle.writing.proofs.Texts.{Copied, first-copied, copied-length, copied-more, copied-all}
 use Rattle.text.proofs.spaces.Statement.{statement}
