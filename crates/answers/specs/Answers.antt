@@ -1,4 +1,4 @@
--- What each answer of the public calls stands for: document 01's refusal with its number and position, and the model's value for each case. The
+-- What each answer of the public calls stands for: the documents' refusal with its number and position, and the model's value for each case. The
 -- table reader's own answers are in the table's `Answer`.
 -- Assumes nothing: these are definitions.
 use Prim.Native.Nat.{ℕ}

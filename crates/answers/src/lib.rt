@@ -1,4 +1,4 @@
-// The answers of the public calls and their refusals. `specs/Answers` says what each stands for in document 01.
+// The answers of the public calls and their refusals. `specs/Answers` says what each stands for in the documents.
 ghost use mathlib.Core.Path.{_≡_};
 ghost use Rattle.table.specs.Outcome.{numberOf, positionOf};
 ghost use Rattle.model.specs.Schedule.{firstNumbers, secondNumbers};
@@ -62,7 +62,7 @@ pub enum Refusal {
 }
 
 impl Refusal {
-    // Document 01's number.
+    // The documents' number.
     pub fn number(self) -> u32
         ensures { λ r. ⌜ r ≡ numberOf (refusalOf self) ⌝ }
     {

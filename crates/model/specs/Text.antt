@@ -21,7 +21,7 @@ digits zero n = []
 digits (suc most) zero = []
 digits (suc most) (suc n) = digits most (suc n / 10) ++ (digit (suc n % 10) ∷ [])
 
--- a number in decimal, without leading zeros: the digits of its tens, and its last digit
+-- a number in decimal, without leading zeros: the digits of its tens, which are at most n, and its last digit
 abbrev pub decimal : ℕ → List ℕ
 decimal n = digits n (n / 10) ++ (digit (n % 10) ∷ [])
 

@@ -1,4 +1,4 @@
--- The C structs' fields: `refusal` 0 where accepted, and then the answer; otherwise document 01's number with its position, and 0 elsewhere.
+-- The C structs' fields: `refusal` 0 where accepted, and then the answer; otherwise the refusal's number with its position, and 0 elsewhere.
 -- Assumes nothing: these are definitions.
 use Prim.Native.Nat.{ℕ}
 use mathlib.Core.Path.{_≡_}
