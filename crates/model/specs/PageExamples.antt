@@ -35,7 +35,7 @@ pages =
     ("0  0 ready             0          0          0          0          0          0          0          0"
     ∷ "1  1 waits             0          0          0          0          0          0          0          0"
     ∷ []))
-    -- cells of one digit to ten
+    -- cells of 1, 2, 6, 7, 9 and 10 digits
     ∷ page wide (replicate 8 0) ⇒ written (lines
     ("0  8 ready    4294967295  999999999         10 1000000000          9         99     100000    1234567"
     ∷ []))
