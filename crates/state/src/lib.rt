@@ -1,5 +1,6 @@
 // The state in arrays: an actor's record and its local steps. `specs/State` says which site of the model the arrays hold.
 ghost use mathlib.Core.Path.{_≡_};
+ghost use mathlib.Core.Bool.{cond};
 ghost use Prim.Native.Nat.{_+_, _<_, _%_, _^_, min};
 ghost use lib.ListN.{length, getD, set};
 ghost use Rattle.state.specs.State.{freshActor};
@@ -22,12 +23,17 @@ impl Actor {
         }
     }
 
-    // Set, and the writing of a result or of a value that was picked up.
+    // Set, and the writing of a result or of a value that was picked up. Every cell is written, the others with what they hold: a lone store, and the whole
+    // record read right after it, would keep the processor waiting.
     pub fn put(mut self, cell: usize, value: u32) -> Self
         requires { ⌜ (length (self .cells) ≡ 8) × (cell < 8) ⌝ }
         ensures { λ r. ⌜ (r .position ≡ self .position) × (r .cells ≡ set (self .cells) cell value) ⌝ }
     {
-        self.cells[cell] = value;
+        let mut i = 0;
+        while i < 8 {
+            self.cells[i] = chosen(i == cell, value, self.cells[i]);
+            i += 1;
+        }
         self
     }
 
@@ -36,8 +42,9 @@ impl Actor {
         requires { ⌜ (length (self .cells) ≡ 8) × (cell < 8) × (other < 8) ⌝ }
         ensures { λ r. ⌜ (r .position ≡ self .position) × (r .cells ≡ set (self .cells) cell ((getD (self .cells) cell 0 + getD (self .cells) other 0) % 2 ^ 32)) ⌝ }
     {
-        self.cells[cell] = std::num::wrapping_add_u32(self.cells[cell], self.cells[other]);
-        self
+        let x = self.cells[cell];
+        let y = self.cells[other];
+        self.put(cell, std::num::wrapping_add_u32(x, y))
     }
 
     // Lesser: the smaller of the two.
@@ -47,8 +54,7 @@ impl Actor {
     {
         let x = self.cells[cell];
         let y = self.cells[other];
-        self.cells[cell] = smaller(x, y);
-        self
+        self.put(cell, smaller(x, y))
     }
 
     // The next action follows.
@@ -59,6 +65,16 @@ impl Actor {
         self.position = self.position + 1;
         self
     }
+}
+
+// The first of two numbers if a test holds, otherwise the second.
+fn chosen(first: bool, x: u32, y: u32) -> u32
+    ensures { λ r. ⌜ r ≡ cond first x y ⌝ }
+{
+    if first {
+        return x;
+    }
+    y
 }
 
 fn smaller(x: u32, y: u32) -> u32

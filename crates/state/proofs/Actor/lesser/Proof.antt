@@ -1,6 +1,6 @@
--- `state::Actor::lesser` meets its contract, by that of the smaller of two numbers.
+-- `state::Actor::lesser` meets its contract, by that of the smaller of two numbers and that of `put`.
 -- Assumes nothing.
-use mathlib.Core.Path.{refl, ap}
+use mathlib.Core.Path.{_∙_, ap}
 use lib.ListN.{set}
 use borrow.Author.Needs.{needs}
 use Rattle.state.proofs.Actor.lesser.Statement.{statement}
@@ -21,14 +21,13 @@ element-copy-out-y c = search needs
 smaller-requires : tie.Need-smaller-requires
 smaller-requires c κs = search needs
 
-mul-self : tie.Need-mul-self
-mul-self c = search needs
-
-element-write-self : tie.Need-element-write-self
-element-write-self c = search needs
+put-requires : tie.Need-put-requires
+put-requires c κs = search needs
 
 returns : tie.Need-returns
-returns c = (refl, ap (set (c .before .before .before .args .t1 .cells) (c .before .before .before .args .cell)) (c .smaller .ensures))
+returns c =
+    let x = c .before .before .before .before .args in
+    (c .put .ensures .0, c .put .ensures .1 ∙ ap (set (x .t1 .cells) (x .cell)) (c .before .smaller .ensures))
 
 pub lesser-spec : {M : Type 1} → statement M
 lesser-spec =
@@ -39,6 +38,5 @@ lesser-spec =
     mul-y
     element-copy-out-y
     smaller-requires
-    mul-self
-    element-write-self
+    put-requires
     returns)
