@@ -6,18 +6,16 @@ use mathlib.Core.Path.{_≡_, _∙_, ap, sym, subst}
 use mathlib.Core.Logic.{_⊎_, inl, inr}
 use mathlib.Core.Bool.{Bool, true, false, not, _&&_}
 use mathlib.Core.List.{List}
-use borrow.Author.Tests.{eq-eqb, ne-eqb, ltb-true}
-use lib.Dec.{ltb}
+use borrow.Author.Tests.{eq-eqb, ne-eqb}
 use lib.ListN.{length, getD, take, List·getD-map}
 use lib.Seq.{getD-take}
-use Rattle.table.specs.Format.{actorsOf, countOf}
 use Rattle.table.specs.Promise.{WellFormed}
 use Rattle.trace.specs.Machine.{Name}
 use Rattle.trace.specs.Schedule.{accepted, names}
 use Rattle.trace.specs.Order.{within, Distinct}
 use Rattle.trace.specs.Same.{equivalent, reorders}
 use Rattle.trace.specs.Route.{route, routeFrom}
-use Rattle.trace.proofs.Bools.{which, and-left, and-right}
+use Rattle.trace.proofs.Bools.{which}
 use Rattle.trace.proofs.Run.{names-distinct}
 use Rattle.trace.proofs.SameChained.{one-way}
 use Rattle.trace.proofs.Verdict.{SameParts, same-parts}
@@ -33,16 +31,11 @@ use Rattle.model.proofs.Demand3.{site-theorems}
 use Rattle.names.specs.InByte.{nameOf}
 use Rattle.names.specs.Names.{namesIn}
 use Rattle.names.specs.Steps.{Stands}
+use Rattle.names.proofs.Steps.{in-table}
 use Rattle.equivalence.specs.Compared.{Compared}
 use Rattle.routing.specs.Routable.{Routable}
 use Rattle.comparison.specs.Traces.{Kept}
 use Rattle.trace.proofs.OwnOrder.{one-order}
-
-pub in-table : (table : List ℕ) (x : Name) → inTable table x ≡ true → Stands table x
-in-table table x h = (
-  ltb-true _ _ (and-left (ltb (x .actor) (actorsOf table)) (ltb (x .position) (countOf table (x .actor))) h),
-  ltb-true _ _ (and-right (ltb (x .actor) (actorsOf table)) (ltb (x .position) (countOf table (x .actor))) h),
-)
 
 module _ (table schedule bytes : List ℕ) (fine : accepted (machine table) initial schedule ≡ true) (K : Kept table schedule bytes) where
   -- each name kept stands in the table

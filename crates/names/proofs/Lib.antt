@@ -2,3 +2,4 @@
 pub mod InByte
 pub mod Listed
 pub mod NamedBytes
+pub mod Steps

@@ -1,37 +1,22 @@
 -- The page over the engine's arrays: an actor's line by its record, and that the ports' logs play no part.
 -- Assumes nothing.
 use mathlib.Core.Path.{_≡_, refl, _∙_, ap, sym}
-use mathlib.Core.Bool.{Bool, not, _&&_, _||_, cond}
+use mathlib.Core.Bool.{Bool, cond}
 use mathlib.Core.List.{List, []}
 use Prim.Native.Nat.{ℕ, _<_}
 use native.Mathlib.Omega.{arith}
 use lib.Dec.{ltb}
 use lib.ListN.{getD}
 use Rattle.table.specs.Format.{actorsOf, countOf}
-use Rattle.model.specs.Views.{Look, blind, communications, mutexes, looks, waits}
-use Rattle.model.specs.Local.{Seen, isSeen, see}
 use Rattle.model.specs.Report.{parts}
 use Rattle.model.specs.Text.{line}
 use Rattle.model.specs.Page.{Status, ready, waits as waiting, finished, statusOf, actorText, page}
 use Rattle.model.proofs.Parts.{parts-same}
 use Rattle.state.specs.declared.Actor.{Actor}
-use Rattle.state.specs.State.{mailOf, queuesOf, recordOf, recordsOf, siteOf, freshActor, nextOf, seenFrom}
-use Rattle.readiness.specs.Parts.{siteWith, looksReady}
-use Rattle.readiness.proofs.Laws.{ready-looks}
+use Rattle.state.specs.State.{recordOf, recordsOf, siteOf, freshActor}
+use Rattle.readiness.specs.Parts.{siteWith}
+use Rattle.readiness.proofs.Laws.{ready-looks, looks-alone}
 use Rattle.page.specs.Parts.{statusFrom, pageFrom}
-
--- a look sees no log
-see-alone : (r : Actor) (comms queues log ends : List ℕ) (a : ℕ) (l : Look)
-    → see (seenFrom r (mailOf comms log ends) (queuesOf queues)) a l ≡ see (seenFrom r (mailOf comms [] []) (queuesOf queues)) a l
-see-alone r comms queues log ends a blind = refl
-see-alone r comms queues log ends a (communications l) = refl
-see-alone r comms queues log ends a (mutexes l) = refl
-
-looks-alone : (table : List ℕ) (a : ℕ) (r : Actor) (comms queues log ends : List ℕ)
-    → looksReady table a r comms queues log ends ≡ looksReady table a r comms queues [] []
-looks-alone table a r comms queues log ends =
-    ap (λ (s : Seen). ltb (r .position) (countOf table a) && (not (waits (nextOf table a r)) || isSeen s))
-    (see-alone r comms queues log ends a (looks (nextOf table a r)))
 
 -- an actor's status, by its record
 module _ (table : List ℕ) (actors : List Actor) (comms queues : List ℕ) where

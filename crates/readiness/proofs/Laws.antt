@@ -2,7 +2,7 @@
 -- Assumes nothing.
 use mathlib.Core.Path.{_≡_, refl, _∙_, ap, ap₂, sym}
 use mathlib.Core.Bool.{Bool, true, false, not, _&&_, _||_}
-use mathlib.Core.List.{List}
+use mathlib.Core.List.{List, []}
 use Prim.Native.Nat.{ℕ, suc, _+_, _-_, _*_, _^_, _<_, _≤_}
 use native.Mathlib.Numerals.{add-one}
 use native.Mathlib.Omega.{arith}
@@ -39,6 +39,14 @@ module _ (table : List ℕ) (a : ℕ) (r : Actor) (comms queues : List ℕ) wher
   looks-by x e h b seen log ends =
       rw (lt-ltb (r .position) (countOf table a) h)
       (seen log ends ∙ ap (passes table (seenFrom r (mailOf comms log ends) (queuesOf queues)) a) (sym e))
+
+-- the ports' logs play no part
+pub looks-alone : (table : List ℕ) (a : ℕ) (r : Actor) (comms queues log ends : List ℕ)
+    → looksReady table a r comms queues log ends ≡ looksReady table a r comms queues [] []
+looks-alone table a r comms queues log ends =
+    ap (λ (s : Seen). ltb (r .position) (countOf table a) && (not (waits (nextOf table a r)) || isSeen s))
+    (see-parts (seenFrom r (mailOf comms log ends) (queuesOf queues)) (seenFrom r (mailOf comms [] []) (queuesOf queues)) a
+    (looks (nextOf table a r)) refl refl)
 
 pub ready-looks : (table : List ℕ) (actors : List Actor) (comms queues log ends : List ℕ) (a : ℕ) → a < actorsOf table
     → ready table (siteWith actors comms queues log ends) a ≡ looksReady table a (getD actors a freshActor) comms queues log ends

@@ -63,7 +63,7 @@ two-left rest (suc (suc i)) h b g = omega arith
 
 module _ {e : List ℕ} {x : ℕ} {b : List ℕ} {rest i : ℕ} (F : Filling e x b rest i) where
   -- the part keeps its length, and column i is in it
-  pub filling-length : length b ≡ length e
+  filling-length : length b ≡ length e
   filling-length =
       ap length (F .held) ∙ simp (length-append, length-replicate, length-drop) (omega (arith, F .room, F .counted))
 

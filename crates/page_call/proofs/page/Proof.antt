@@ -1,10 +1,11 @@
--- `order::page` meets its contract: 20, then what the execution refuses; and only an accepted page writes. Assumes nothing.
+-- `page_call::page` meets its contract: 20, then what the execution refuses; and only an accepted page writes. Assumes nothing.
 use native.Mathlib.Omega.{arith}
 use borrow.Author.Needs.{needs}
 use Rattle.model.specs.Page.{page, pageOf}
-use Rattle.order.proofs.Outcomes.{too-small, not-run, run-whole, page-small, pageable, page-held}
-use Rattle.order.proofs.page.Statement.{statement}
-use Rattle.order.proofs.page.Tie as tie
+use Rattle.execution.proofs.Fills.{too-small, not-run, run-whole}
+use Rattle.page_call.proofs.Pages.{page-small, pageable, page-held}
+use Rattle.page_call.proofs.page.Statement.{statement}
+use Rattle.page_call.proofs.page.Tie as tie
 
 returns : tie.Need-returns
 unfolding pageOf

@@ -1,12 +1,12 @@
--- `order::most_exchanges` meets its contract: a schedule has at most 256 entries, so the product fits.
+-- `route_call::most_exchanges` meets its contract: a schedule has at most 256 entries, so the product fits.
 -- Assumes nothing.
 use mathlib.Core.Path.{_≡_, ap}
 use native.Mathlib.Omega.{arith}
 use Rattle.model.specs.Route.{mostExchanges}
-use Rattle.order.proofs.RouteOutcomes.{products-few}
+use Rattle.route_call.proofs.RouteOutcomes.{products-few}
 use borrow.Author.Needs.{needs}
-use Rattle.order.proofs.most_exchanges.Statement.{statement}
-use Rattle.order.proofs.most_exchanges.Tie as tie
+use Rattle.route_call.proofs.most_exchanges.Statement.{statement}
+use Rattle.route_call.proofs.most_exchanges.Tie as tie
 
 returns : tie.Need-returns
 returns c =

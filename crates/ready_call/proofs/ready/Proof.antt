@@ -1,9 +1,9 @@
--- `order::ready` meets its contract: it is refused as the execution is, and the answer is that of the end state. Assumes nothing.
+-- `ready_call::ready` meets its contract: it is refused as the execution is, and the answer is that of the end state. Assumes nothing.
 use borrow.Author.Needs.{needs}
 use Rattle.execution.proofs.Ends.{answerable}
-use Rattle.order.proofs.Outcomes.{ready-refused, ready-given}
-use Rattle.order.proofs.ready.Statement.{statement}
-use Rattle.order.proofs.ready.Tie as tie
+use Rattle.ready_call.proofs.ReadyOutcomes.{ready-refused, ready-given}
+use Rattle.ready_call.proofs.ready.Statement.{statement}
+use Rattle.ready_call.proofs.ready.Tie as tie
 
 execute-requires : tie.Need-execute-requires
 execute-requires c κs = search needs

@@ -1,4 +1,4 @@
--- `order::route` meets its contract: refused as comparing the schedules is, then 19, then 18, and otherwise the route is written.
+-- `route_call::route` meets its contract: refused as comparing the schedules is, then 19, then 18, and otherwise the route is written.
 -- Assumes nothing.
 use mathlib.Core.Path.{_∙_, ap, sym, subst}
 use mathlib.Core.List.{List, _++_}
@@ -8,10 +8,10 @@ use lib.ListN.{length, drop}
 use Rattle.model.specs.Calls.{same as alike}
 use Rattle.answers.specs.Answers.{sameResult}
 use Rattle.comparison.proofs.TraceNames.{routable, route-names}
-use Rattle.order.proofs.RouteOutcomes.{are-same, one-length, first-taken, second-taken, route-refused, route-different, route-small, route-short, route-given}
+use Rattle.route_call.proofs.RouteOutcomes.{are-same, one-length, first-taken, second-taken, route-refused, route-different, route-small, route-short, route-given}
 use borrow.Author.Needs.{needs}
-use Rattle.order.proofs.route.Statement.{statement}
-use Rattle.order.proofs.route.Tie as tie
+use Rattle.route_call.proofs.route.Statement.{statement}
+use Rattle.route_call.proofs.route.Tie as tie
 
 compared-requires : tie.Need-compared-requires
 compared-requires c κs = search needs

@@ -1,4 +1,4 @@
--- `order::pair` meets its contract: the reader's refusal, then a name that is not in the table, then the verdict.
+-- `pair_call::pair` meets its contract: the reader's refusal, then a name that is not in the table, then the verdict.
 -- Assumes nothing.
 use mathlib.Core.Path.{_∙_, ap, sym}
 use mathlib.Core.Bool.{true, false}
@@ -6,11 +6,11 @@ use borrow.Author.Tests.{not-true, not-false}
 use Rattle.table.specs.Answer.{outcome}
 use Rattle.table.proofs.Readings.{refusing}
 use Rattle.model.specs.Site.{name}
-use Rattle.comparison.proofs.TraceNames.{in-table}
-use Rattle.order.proofs.PairOutcomes.{table-refused, no-first, no-second, pair-given}
+use Rattle.names.proofs.Steps.{in-table}
+use Rattle.pair_call.proofs.PairOutcomes.{table-refused, no-first, no-second, pair-given}
 use borrow.Author.Needs.{needs}
-use Rattle.order.proofs.pair.Statement.{statement}
-use Rattle.order.proofs.pair.Tie as tie
+use Rattle.pair_call.proofs.pair.Statement.{statement}
+use Rattle.pair_call.proofs.pair.Tie as tie
 
 read-requires : tie.Need-read-requires
 read-requires c κs = search needs

@@ -1,10 +1,10 @@
--- `order::stands` meets its contract: the two tests are those of `inTable`.
+-- `pair_call::stands` meets its contract: the two tests are those of `inTable`.
 -- Assumes nothing.
 use mathlib.Core.Path.{sym}
 use borrow.Author.Tests.{lt-ltb, le-ltb}
 use borrow.Author.Needs.{needs}
-use Rattle.order.proofs.stands.Statement.{statement}
-use Rattle.order.proofs.stands.Tie as tie
+use Rattle.pair_call.proofs.stands.Statement.{statement}
+use Rattle.pair_call.proofs.stands.Tie as tie
 
 actors-requires : tie.Need-actors-requires
 actors-requires c κs = search needs

@@ -1,11 +1,12 @@
--- `order::run` meets its contract: 10, then what the execution refuses; and only an accepted run writes. Assumes nothing.
+-- `run_call::run` meets its contract: 10, then what the execution refuses; and only an accepted run writes. Assumes nothing.
 use native.Mathlib.Omega.{arith}
 use borrow.Author.Needs.{needs}
 use Rattle.model.specs.Report.{report}
 use Rattle.model.specs.Calls.{runOf}
-use Rattle.order.proofs.Outcomes.{too-small, not-run, run-whole, report-small, reportable}
-use Rattle.order.proofs.run.Statement.{statement}
-use Rattle.order.proofs.run.Tie as tie
+use Rattle.execution.proofs.Fills.{too-small, not-run, run-whole}
+use Rattle.run_call.proofs.Reports.{report-small, reportable}
+use Rattle.run_call.proofs.run.Statement.{statement}
+use Rattle.run_call.proofs.run.Tie as tie
 
 returns : tie.Need-returns
 unfolding runOf

@@ -1,0 +1,2 @@
+-- What the page call leans on.
+pub mod Pages

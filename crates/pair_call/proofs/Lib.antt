@@ -1,0 +1,2 @@
+-- The outcome of the pair call by what is known of its checks.
+pub mod PairOutcomes

@@ -1,0 +1,2 @@
+-- What the run call leans on.
+pub mod Reports
