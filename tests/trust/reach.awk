@@ -163,7 +163,12 @@ FNR == 1 && inside { fault("a contract without an end: " call[calls]); inside = 
     bind(name, "Rattle·" (crate == "crate" ? crate_of(FILENAME) : crate) ".specs.declared." name, place)
     next
 }
-/^[ \t]*pub use / { fault("a public import is not followed: " FILENAME ":" FNR ": " $0) }
+# A public import passes on a call of another crate, whose source is read too.
+/^[ \t]*pub use / {
+    if ($0 !~ /^pub use [a-z0-9_]+::[a-z0-9_]+;$/) fault("a public import is not followed: " FILENAME ":" FNR ": " $0)
+    crate = $3; sub(/::.*/, "", crate); name = $3; sub(/;.*/, "", name)
+    passed[name] = FILENAME ":" FNR ": " $0; has_call[crate_of(FILENAME)] = 1
+}
 /^[ \t]*pub mod / { name = $3; sub(/;.*/, "", name); public_module[FILENAME, name] = 1 }
 /^[ \t]*pub (struct|enum) / {
     name = $3; sub(/[^A-Za-z0-9_].*/, "", name)
@@ -190,12 +195,14 @@ END {
         file = call_file[c]; crate = crate_of(file)
         if (!is_public(file)) continue
         queue[++roots] = call[c]; has_call[crate] = 1
+        name = call[c]; sub(/.*: /, "", name); delete passed[crate "::" name]
         if (c in asks) fault("a public call asks something of its caller: " call[c])
         for (k = 1; k <= binds[file]; k++)
             if (mentions(call_text[c], bound_name[file, k])) edge(call[c], target(bound_path[file, k], bound_at[file, k]), bound_at[file, k])
         for (k = 1; k <= types; k++)
             if (type_crate[k] == crate && mentions(call_text[c], type_name[k])) edge(call[c], crate ": " type_name[k], type_at[k])
     }
+    for (name in passed) fault("no public function for the import: " passed[name])
     n = split(public, part, " ")
     for (k = 1; k <= n; k++) if (!(part[k] in has_call)) fault("no public function in crates/" part[k])
     if (!(demand in lines)) fault("there is no " demand)

@@ -1,7 +1,7 @@
 -- `order_ffi::order_run` meets its contract: the fields of the call's outcome. Assumes nothing.
 use mathlib.Core.Path.{_∙_, ap}
 use borrow.Author.Needs.{needs}
-use Rattle.order_ffi.specs.Fields.{lengthFields}
+use Rattle.c_answers.specs.Fields.{lengthFields}
 use Rattle.order_ffi.proofs.order_run.Statement.{statement}
 use Rattle.order_ffi.proofs.order_run.Tie as tie
 

@@ -1,62 +1,18 @@
--- `order_ffi::order_same` meets its contract: each answer's fields are those of the call's outcome.
--- Assumes nothing.
-use mathlib.Core.Path.{_≡_, _∙_, ap, ap₂, sym}
-use Prim.Native.Nat.{ℕ}
-use Rattle.model.specs.Calls.{Result, SameVerdict}
-use Rattle.answers.specs.declared.SameAnswer.{SameAnswer}
-use Rattle.answers.specs.Answers.{sameResult}
-use Rattle.order_ffi.specs.declared.OrderSame.{OrderSame}
-use Rattle.order_ffi.specs.Fields.{sameFields}
+-- `order_ffi::order_same` meets its contract: the fields of the call's outcome. Assumes nothing.
+use mathlib.Core.Path.{_∙_, ap}
 use borrow.Author.Needs.{needs}
+use Rattle.c_answers.specs.Fields.{sameFields}
 use Rattle.order_ffi.proofs.order_same.Statement.{statement}
 use Rattle.order_ffi.proofs.order_same.Tie as tie
-
-abbrev refusal : ℕ → ℕ → OrderSame
-refusal number at = record { refusal = number; position = at; verdict = 0 }
-
--- the fields of an answer that is known are those of the call's outcome
-as-fields : {r a : SameAnswer} {o : Result SameVerdict} → r ≡ a → sameResult r ≡ o → sameFields (sameResult a) ≡ sameFields o
-as-fields {r} {a} {o} e right = sym (ap (λ (x : SameAnswer). sameFields (sameResult x)) e) ∙ ap sameFields right
 
 same-requires : tie.Need-same-requires
 same-requires c κs = search needs
 
-enum-told : tie.Need-enum-told
-enum-told c = search needs
-
-enum-told-2 : tie.Need-enum-told-2
-enum-told-2 c = search needs
-
-enum-known-answer : tie.Need-enum-known-answer
-enum-known-answer c = search needs
-
-number-requires : tie.Need-number-requires
-number-requires c κs = search needs
-
-position-requires : tie.Need-position-requires
-position-requires c κs = search needs
+same-requires-2 : tie.Need-same-requires-2
+same-requires-2 c κs = search needs
 
 returns : tie.Need-returns
-returns c = as-fields (c .enum-told .given .1) (c .before .before .same .ensures)
-
-returns-2 : tie.Need-returns-2
-returns-2 c = as-fields (c .enum-told2 .given .1) (c .before .before .same .ensures)
-
-returns-3 : tie.Need-returns-3
-returns-3 c =
-    ap₂ (λ (number at : ℕ). refusal number at) (c .before .number .ensures) (c .position .ensures)
-    ∙ as-fields (c .before .before .before .answer .given .1) (c .before .before .before .before .before .same .ensures)
+returns c = c .same2 .ensures ∙ ap sameFields (c .before .same .ensures)
 
 pub order-same-spec : {M : Type 1} → statement M
-order-same-spec =
-    tie.close
-    (tie.spec
-    same-requires
-    enum-told
-    enum-told-2
-    enum-known-answer
-    number-requires
-    position-requires
-    returns
-    returns-2
-    returns-3)
+order-same-spec = tie.close (tie.spec same-requires same-requires-2 returns)

@@ -1,11 +1,11 @@
--- `order_ffi::readiness` meets its contract, by that of the ending's number.
+-- `c_answers::readiness` meets its contract, by that of the ending's number.
 -- Assumes nothing.
 use mathlib.Core.Path.{ap}
 use Prim.Native.Nat.{ℕ}
-use Rattle.order_ffi.specs.declared.OrderReady.{OrderReady}
+use Rattle.c_answers.specs.declared.OrderReady.{OrderReady}
 use borrow.Author.Needs.{needs}
-use Rattle.order_ffi.proofs.readiness.Statement.{statement}
-use Rattle.order_ffi.proofs.readiness.Tie as tie
+use Rattle.c_answers.proofs.readiness.Statement.{statement}
+use Rattle.c_answers.proofs.readiness.Tie as tie
 
 abbrev with-ending : ℕ → ℕ → ℕ → OrderReady
 with-ending mask count ending = record { refusal = 0; position = 0; mask = mask; count = count; ending = ending }

@@ -1,13 +1,13 @@
--- `order_ffi::length` meets its contract: each answer's fields. Assumes nothing.
+-- `c_answers::length` meets its contract: each answer's fields. Assumes nothing.
 use mathlib.Core.Path.{_∙_, ap, ap₂, sym}
 use Prim.Native.Nat.{ℕ}
 use borrow.Author.Needs.{needs}
 use Rattle.answers.specs.declared.LengthAnswer.{LengthAnswer}
 use Rattle.answers.specs.Answers.{lengthResult}
-use Rattle.order_ffi.specs.declared.OrderLength.{OrderLength}
-use Rattle.order_ffi.specs.Fields.{lengthFields}
-use Rattle.order_ffi.proofs.length.Statement.{statement}
-use Rattle.order_ffi.proofs.length.Tie as tie
+use Rattle.c_answers.specs.declared.OrderLength.{OrderLength}
+use Rattle.c_answers.specs.Fields.{lengthFields}
+use Rattle.c_answers.proofs.length.Statement.{statement}
+use Rattle.c_answers.proofs.length.Tie as tie
 
 abbrev refusal : ℕ → ℕ → OrderLength
 refusal number at = record { refusal = number; position = at; length = 0 }

@@ -3,13 +3,19 @@
 use Prim.Native.Nat.{ℕ}
 use mathlib.Core.Path.{_≡_}
 use mathlib.Core.List.{List}
+use Rattle.table.specs.Outcome.{Outcome, numberOf, positionOf}
 use Rattle.model.specs.Ready.{Ending, finished, stuck, going, ReadyAnswer}
 use Rattle.model.specs.Calls.{Result, gives, refuses, PairVerdict, independent, dependent, SameVerdict, same, different}
 use Rattle.model.specs.Route.{RightRoute}
-use Rattle.order_ffi.specs.declared.OrderLength.{OrderLength}
-use Rattle.order_ffi.specs.declared.OrderReady.{OrderReady}
-use Rattle.order_ffi.specs.declared.OrderPair.{OrderPair}
-use Rattle.order_ffi.specs.declared.OrderSame.{OrderSame}
+use Rattle.c_answers.specs.declared.OrderCheck.{OrderCheck}
+use Rattle.c_answers.specs.declared.OrderLength.{OrderLength}
+use Rattle.c_answers.specs.declared.OrderReady.{OrderReady}
+use Rattle.c_answers.specs.declared.OrderPair.{OrderPair}
+use Rattle.c_answers.specs.declared.OrderSame.{OrderSame}
+
+-- of a table that is read
+abbrev pub checkFields : Outcome → OrderCheck
+checkFields o = record { refusal = numberOf o; position = positionOf o }
 
 -- of run, page and route
 abbrev pub lengthFields : Result ℕ → OrderLength

@@ -1,0 +1,55 @@
+-- `c_answers::same` meets its contract: each answer's fields. Assumes nothing.
+use mathlib.Core.Path.{_≡_, _∙_, ap, ap₂, sym}
+use Prim.Native.Nat.{ℕ}
+use borrow.Author.Needs.{needs}
+use Rattle.answers.specs.declared.SameAnswer.{SameAnswer}
+use Rattle.answers.specs.Answers.{sameResult}
+use Rattle.c_answers.specs.declared.OrderSame.{OrderSame}
+use Rattle.c_answers.specs.Fields.{sameFields}
+use Rattle.c_answers.proofs.same.Statement.{statement}
+use Rattle.c_answers.proofs.same.Tie as tie
+
+abbrev refusal : ℕ → ℕ → OrderSame
+refusal number at = record { refusal = number; position = at; verdict = 0 }
+
+-- the fields of an answer that is known
+known : {r a : SameAnswer} → r ≡ a → sameFields (sameResult a) ≡ sameFields (sameResult r)
+known e = sym (ap (λ (x : SameAnswer). sameFields (sameResult x)) e)
+
+enum-told : tie.Need-enum-told
+enum-told c = search needs
+
+enum-told-2 : tie.Need-enum-told-2
+enum-told-2 c = search needs
+
+enum-known-answer : tie.Need-enum-known-answer
+enum-known-answer c = search needs
+
+number-requires : tie.Need-number-requires
+number-requires c κs = search needs
+
+position-requires : tie.Need-position-requires
+position-requires c κs = search needs
+
+returns : tie.Need-returns
+returns c = known (c .enum-told .given .1)
+
+returns-2 : tie.Need-returns-2
+returns-2 c = known (c .enum-told2 .given .1)
+
+returns-3 : tie.Need-returns-3
+returns-3 c =
+    ap₂ (λ (number at : ℕ). refusal number at) (c .before .number .ensures) (c .position .ensures) ∙ known (c .before .before .before .answer .given .1)
+
+pub same-spec : {M : Type 1} → statement M
+same-spec =
+    tie.close
+    (tie.spec
+    enum-told
+    enum-told-2
+    enum-known-answer
+    number-requires
+    position-requires
+    returns
+    returns-2
+    returns-3)
