@@ -44,7 +44,8 @@ impl Actor {
     {
         let x = self.cells[cell];
         let y = self.cells[other];
-        self.put(cell, std::num::wrapping_add_u32(x, y))
+        self = self.put(cell, std::num::wrapping_add_u32(x, y));
+        self
     }
 
     // Lesser: the smaller of the two.
@@ -54,7 +55,8 @@ impl Actor {
     {
         let x = self.cells[cell];
         let y = self.cells[other];
-        self.put(cell, smaller(x, y))
+        self = self.put(cell, smaller(x, y));
+        self
     }
 
     // The next action follows.

@@ -39,6 +39,13 @@ impl Counts {
     }
 }
 
+/// Has the C library clear memory by stores, not by one instruction that repeats: callgrind counts
+/// that one once for each byte.
+const CLEAR_BY_STORES: (&str, &str) = (
+    "GLIBC_TUNABLES",
+    "glibc.cpu.x86_rep_stosb_threshold=1000000",
+);
+
 /// Two dumps for each engine's part of a row: what came before it, and the part.
 fn counted(program: &Path, folder: &Path, rows: &[Row]) -> Result<Counts, String> {
     let output = Command::new("valgrind")
@@ -46,6 +53,7 @@ fn counted(program: &Path, folder: &Path, rows: &[Row]) -> Result<Counts, String
         .arg("--callgrind-out-file=out")
         .arg(program)
         .current_dir(folder)
+        .env(CLEAR_BY_STORES.0, CLEAR_BY_STORES.1)
         .output()
         .map_err(|error| format!("valgrind: {error}"))?;
     if !output.status.success() {
