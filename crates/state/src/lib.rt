@@ -23,8 +23,8 @@ impl Actor {
         }
     }
 
-    // Set, and the writing of a result or of a value that was picked up. Every cell is written, the others with what they hold: a lone store, and the whole
-    // record read right after it, would keep the processor waiting.
+    // Set, and the writing of a result or of a value that was picked up. Every cell is written, the others with what they hold: a store of
+    // one cell, with the whole record read right after it, is slow.
     pub fn put(mut self, cell: usize, value: u32) -> Self
         requires { ⌜ (length (self .cells) ≡ 8) × (cell < 8) ⌝ }
         ensures { λ r. ⌜ (r .position ≡ self .position) × (r .cells ≡ set (self .cells) cell value) ⌝ }
