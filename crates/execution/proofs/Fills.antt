@@ -12,6 +12,7 @@ use Rattle.model.specs.Site.{Site}
 use Rattle.model.specs.Schedule.{endState}
 use Rattle.model.specs.Calls.{Result, gives, refuses, answer, Filled, lentAfter, fills, readyChecks}
 
+-- a result and the bytes left are those of an outcome
 abbrev pub Answers : Result ℕ → (after : List ℕ) → Filled → Type 0
 Answers result after o = (result ≡ o .result) × (after ≡ o .lent)
 

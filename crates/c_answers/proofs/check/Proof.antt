@@ -16,7 +16,7 @@ position-requires : tie.Need-position-requires
 position-requires c κs = search needs
 
 returns : tie.Need-returns
-returns c = ap₂ (λ (number at : ℕ). fields number at) (c .before .number .ensures) (c .position .ensures)
+returns c = ap₂ fields (c .before .number .ensures) (c .position .ensures)
 
 pub check-spec : {M : Type 1} → statement M
 check-spec = tie.close (tie.spec number-requires position-requires returns)

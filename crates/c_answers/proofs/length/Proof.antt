@@ -12,6 +12,9 @@ use Rattle.c_answers.proofs.length.Tie as tie
 abbrev refusal : ℕ → ℕ → OrderLength
 refusal number at = record { refusal = number; position = at; length = 0 }
 
+abbrev fields : LengthAnswer → OrderLength
+fields answer = lengthFields (lengthResult answer)
+
 enum-known-answer : tie.Need-enum-known-answer
 enum-known-answer c = search needs
 
@@ -25,12 +28,12 @@ position-requires : tie.Need-position-requires
 position-requires c κs = search needs
 
 returns : tie.Need-returns
-returns c = sym (ap (λ (x : LengthAnswer). lengthFields (lengthResult x)) (c .before .answer .given .1))
+returns c = sym (ap fields (c .before .answer .given .1))
 
 returns-2 : tie.Need-returns-2
 returns-2 c =
-    ap₂ (λ (number at : ℕ). refusal number at) (c .before .number .ensures) (c .position .ensures)
-    ∙ sym (ap (λ (x : LengthAnswer). lengthFields (lengthResult x)) (c .before .before .before .answer2 .given .1))
+    ap₂ refusal (c .before .number .ensures) (c .position .ensures)
+    ∙ sym (ap fields (c .before .before .before .answer2 .given .1))
 
 pub length-spec : {M : Type 1} → statement M
 length-spec =

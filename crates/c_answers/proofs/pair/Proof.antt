@@ -1,5 +1,5 @@
 -- `c_answers::pair` meets its contract: each answer's fields. Assumes nothing.
-use mathlib.Core.Path.{_≡_, _∙_, ap, ap₂, sym}
+use mathlib.Core.Path.{_∙_, ap, ap₂, sym}
 use Prim.Native.Nat.{ℕ}
 use borrow.Author.Needs.{needs}
 use Rattle.answers.specs.declared.PairAnswer.{PairAnswer}
@@ -12,9 +12,8 @@ use Rattle.c_answers.proofs.pair.Tie as tie
 abbrev refusal : ℕ → ℕ → OrderPair
 refusal number at = record { refusal = number; position = at; verdict = 0 }
 
--- the fields of an answer that is known
-known : {r a : PairAnswer} → r ≡ a → pairFields (pairResult a) ≡ pairFields (pairResult r)
-known e = sym (ap (λ (x : PairAnswer). pairFields (pairResult x)) e)
+abbrev fields : PairAnswer → OrderPair
+fields answer = pairFields (pairResult answer)
 
 enum-told : tie.Need-enum-told
 enum-told c = search needs
@@ -32,14 +31,14 @@ position-requires : tie.Need-position-requires
 position-requires c κs = search needs
 
 returns : tie.Need-returns
-returns c = known (c .enum-told .given .1)
+returns c = sym (ap fields (c .enum-told .given .1))
 
 returns-2 : tie.Need-returns-2
-returns-2 c = known (c .enum-told2 .given .1)
+returns-2 c = sym (ap fields (c .enum-told2 .given .1))
 
 returns-3 : tie.Need-returns-3
 returns-3 c =
-    ap₂ (λ (number at : ℕ). refusal number at) (c .before .number .ensures) (c .position .ensures) ∙ known (c .before .before .before .answer .given .1)
+    ap₂ refusal (c .before .number .ensures) (c .position .ensures) ∙ sym (ap fields (c .before .before .before .answer .given .1))
 
 pub pair-spec : {M : Type 1} → statement M
 pair-spec =

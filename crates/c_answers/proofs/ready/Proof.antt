@@ -1,5 +1,5 @@
 -- `c_answers::ready` meets its contract: each answer's fields. Assumes nothing.
-use mathlib.Core.Path.{_≡_, _∙_, ap, ap₂, sym}
+use mathlib.Core.Path.{_∙_, ap, ap₂, sym}
 use Prim.Native.Nat.{ℕ}
 use borrow.Author.Needs.{needs}
 use Rattle.answers.specs.declared.ReadyAnswer.{ReadyAnswer}
@@ -12,9 +12,8 @@ use Rattle.c_answers.proofs.ready.Tie as tie
 abbrev refusal : ℕ → ℕ → OrderReady
 refusal number at = record { refusal = number; position = at; mask = 0; count = 0; ending = 0 }
 
--- the fields of an answer that is known
-known : {r a : ReadyAnswer} → r ≡ a → readyFields (readyResult a) ≡ readyFields (readyResult r)
-known e = sym (ap (λ (x : ReadyAnswer). readyFields (readyResult x)) e)
+abbrev fields : ReadyAnswer → OrderReady
+fields answer = readyFields (readyResult answer)
 
 enum-known-answer : tie.Need-enum-known-answer
 enum-known-answer c = search needs
@@ -32,11 +31,11 @@ position-requires : tie.Need-position-requires
 position-requires c κs = search needs
 
 returns : tie.Need-returns
-returns c = c .readiness .ensures ∙ known (c .before .before .answer .given .1)
+returns c = c .readiness .ensures ∙ sym (ap fields (c .before .before .answer .given .1))
 
 returns-2 : tie.Need-returns-2
 returns-2 c =
-    ap₂ (λ (number at : ℕ). refusal number at) (c .before .number .ensures) (c .position .ensures) ∙ known (c .before .before .before .answer2 .given .1)
+    ap₂ refusal (c .before .number .ensures) (c .position .ensures) ∙ sym (ap fields (c .before .before .before .answer2 .given .1))
 
 pub ready-spec : {M : Type 1} → statement M
 ready-spec =
