@@ -8,7 +8,7 @@ use Rattle.model.specs.Schedule.{RefusalNumbers, firstNumbers, secondNumbers}
 use Rattle.model.specs.Ready as Model
 use Rattle.model.specs.Calls.{Result, gives, refuses, PairVerdict, independent, dependent, SameVerdict, same, different}
 use Rattle.answers.specs.declared.Stop.{Stop}
-use Rattle.answers.specs.declared.Stop.the-variants.{Absent, Finished, Waiting}
+use Rattle.answers.specs.declared.Stop.the-variants.{Absent, Finished, Waiting, Over}
 use Rattle.answers.specs.declared.Refusal.{Refusal}
 use Rattle.answers.specs.declared.Refusal.the-variants as refusal
 use Rattle.answers.specs.declared.Ending.{Ending}
@@ -25,11 +25,13 @@ use Rattle.answers.specs.declared.SameAnswer.the-variants as same-answer
 
 -- ---- refusals
 
--- a schedule that stops at an entry: no such actor, finished, not ready; by the numbers of its place, first or second
+-- a schedule that stops at an entry: no such actor; finished; the step waits; it is an Add that runs over; by the numbers of its place, first or
+-- second
 abbrev pub stopOf : RefusalNumbers → Stop → Outcome
 stopOf n (Absent i) = refused (n .absent) i
 stopOf n (Finished i) = refused (n .finished) i
 stopOf n (Waiting i) = refused (n .waiting) i
+stopOf n (Over i) = refused (n .over) i
 
 abbrev pub refusalOf : Refusal → Outcome
 refusalOf (refusal.Table reading) = outcome reading

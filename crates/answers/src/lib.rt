@@ -5,11 +5,12 @@ ghost use Rattle.model.specs.Schedule.{firstNumbers, secondNumbers};
 ghost use Rattle.answers.specs.Answers.{stopOf, refusalOf};
 use table::Reading;
 
-// Why a schedule stops before its end, with the entry's index: it names no actor, a finished one, or one that waits.
+// Why a schedule stops before its end, with the entry's index: it names no actor, a finished one, one that waits, or one whose Add would run over.
 pub enum Stop {
     Absent(u32),
     Finished(u32),
     Waiting(u32),
+    Over(u32),
 }
 
 impl Stop {
@@ -21,6 +22,7 @@ impl Stop {
             Stop::Absent(_) => 11,
             Stop::Finished(_) => 12,
             Stop::Waiting(_) => 13,
+            Stop::Over(_) => 21,
         }
     }
 
@@ -32,6 +34,7 @@ impl Stop {
             Stop::Absent(_) => 14,
             Stop::Finished(_) => 15,
             Stop::Waiting(_) => 16,
+            Stop::Over(_) => 22,
         }
     }
 
@@ -44,6 +47,7 @@ impl Stop {
             Stop::Absent(i) => i,
             Stop::Finished(i) => i,
             Stop::Waiting(i) => i,
+            Stop::Over(i) => i,
         }
     }
 }

@@ -40,6 +40,7 @@ module _ {table schedule comms log ends queues names : List ℕ} {actors : List 
       record {
         accepted = E .promise;
         actors-long = E .end .actors-long;
+        eight = E .end .eight;
         comms-room = E .end .mail-room .comms-room;
         queue-room = E .end .queue-room;
       }

@@ -7,8 +7,10 @@ ghost use lib.Dec.{leb};
 ghost use Rattle.table.specs.Promise.{number as numberAt};
 ghost use Rattle.model.specs.Views.{listed};
 ghost use Rattle.model.specs.Local.{unseen, isSeen};
-ghost use Rattle.state.specs.State.{CommsRoom, QueueRoom};
+ghost use Rattle.model.specs.Step.{taken, waiting};
+ghost use Rattle.state.specs.State.{CommsRoom, QueueRoom, stepAs};
 ghost use Rattle.look.specs.Parts.{seenOf, communicationsSeen, mutexesSeen};
+use state::NextStep;
 
 // Nothing; or the first place in the list, counted from 1, with the number listed there and the value of that communication (0 for a mutex).
 pub enum Seen {
@@ -98,16 +100,16 @@ fn owned(queues: &[u8; 72], a: usize, count: usize, place: usize, m: usize) -> S
     Seen::Unseen
 }
 
-// Whether something was found.
-pub fn is_seen(seen: Seen) -> bool
-    ensures { λ b. ⌜ b ≡ isSeen (seenOf seen) ⌝ }
+// What a step is that waits until something is found.
+pub fn awaited(seen: Seen) -> NextStep
+    ensures { λ s. ⌜ stepAs s ≡ cond (isSeen (seenOf seen)) taken waiting ⌝ }
 {
     match seen {
-        Seen::Unseen => false,
+        Seen::Unseen => NextStep::Waits,
         Seen::At {
             place: _,
             number: _,
             value: _,
-        } => true,
+        } => NextStep::Taken,
     }
 }

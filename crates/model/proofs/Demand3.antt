@@ -85,7 +85,7 @@ module _ (table : List ℕ) (read : readOf table ≡ accepted) where
 
   -- ---- readiness
 
-  ready-taken : (p : List ℕ) (now : ReadyAnswer) → readyOf table p ≡ gives now → Accepted table p
+  pub ready-taken : (p : List ℕ) (now : ReadyAnswer) → readyOf table p ≡ gives now → Accepted table p
   unfolding readyOf
   ready-taken p now h =
       checks-taken table firstNumbers initial 0 p
@@ -102,7 +102,7 @@ module _ (table : List ℕ) (read : readOf table ≡ accepted) where
       answer-given (readyChecks table p) _ (ready-checks p (ready-taken p now h)) in
       ap (λ (r : ReadyAnswer). r .mask) (gives-injective (sym given ∙ h))
 
-  bit-ready : (p : List ℕ) (a : ℕ) (now : ReadyAnswer) → readyOf table p ≡ gives now → bitOf (now .mask) a ≡ bit (ready table (endState table p) a)
+  pub bit-ready : (p : List ℕ) (a : ℕ) (now : ReadyAnswer) → readyOf table p ≡ gives now → bitOf (now .mask) a ≡ bit (ready table (endState table p) a)
   bit-ready p a now h = ap (λ (m : ℕ). bitOf m a) (sym (mask-given p now h)) ∙ mask-right table (endState table p) .bits a
 
   stays-ready : (p more : List ℕ) (a : ℕ) (now later : ReadyAnswer) → readyOf table p ≡ gives now → bitOf (now .mask) a ≡ 1 → has more a ≡ false

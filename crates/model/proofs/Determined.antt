@@ -29,7 +29,7 @@ lossless-final table bytes s p i h =
     record {
       reached = reached-final table s p (i .reached) h;
       eight = eight-final table s p (i .eight);
-      small = small-final table bytes s p (i .small);
+      small = small-final table bytes s p h (i .small);
     }
 
 pub lossless-initial : (table : List ℕ) → Lossless table initial

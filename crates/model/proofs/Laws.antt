@@ -4,7 +4,7 @@ use Prim.Native.Nat.{ℕ, _<_}
 use native.Mathlib.Omega.{arith}
 use mathlib.Core.Path.{_≡_, refl, sym, _∙_, ap}
 use mathlib.Core.Logic.{_⊎_, inl, inr, _≢_}
-use mathlib.Core.Bool.{Bool, true, false, not, _&&_, _||_}
+use mathlib.Core.Bool.{Bool, true, false, not, _||_}
 use mathlib.Core.List.{List}
 use lib.Dec.{eqb, ltb}
 use Rattle.table.specs.declared.Action.{Action}
@@ -14,11 +14,11 @@ use Rattle.trace.specs.Laws.{Laws}
 use Rattle.trace.specs.Order.{mem}
 use Rattle.trace.proofs.Bools.{contrary, both, and-left, and-right, or-left, or-right, or-cases, or-false-left, or-false-right}
 use Rattle.model.specs.Site.{upd, Actor, Port, opposite, eqPort, Mail, Site, name}
-use Rattle.model.specs.Views.{Post, silent, mails, joins, leaves, posts, looks, waits, sent}
+use Rattle.model.specs.Views.{Post, silent, mails, joins, leaves, posts, looks, waits, sent, runsOver}
 use Rattle.model.specs.Mutex.{queueing}
 use Rattle.model.specs.Mail.{mailing}
 use Rattle.model.specs.Local.{see, isSeen, local}
-use Rattle.model.specs.Step.{actionAt, nextName, nextAction, unfinished, passes, ready, step}
+use Rattle.model.specs.Step.{actionAt, nextName, nextAction, unfinished, passes, isTaken, nextStep, ready, step}
 use Rattle.model.specs.Pair.{competes, sees, depends}
 use Rattle.model.specs.Schedule.{machine}
 use Rattle.model.proofs.Upd.{upd-comm}
@@ -28,6 +28,7 @@ use Rattle.model.proofs.Queues.{queueing-commutes}
 use Rattle.model.proofs.Pairing.{Apart, meet-commutes}
 use Rattle.model.proofs.Invariant.{Inv, own-position, others-record, inv-step}
 use Rattle.model.proofs.Looks.{still-sees, sees-same}
+use Rattle.model.proofs.NextSteps.{taken-lasts}
 
 -- ---- readiness
 
@@ -45,10 +46,13 @@ module _ (table : List ℕ) (a b : ℕ) (ne : a ≢ b) (s : Site) where
   unfolding ready
   ready-lasts h =
       let in-table : ltb a (actorsOf table) ≡ true = and-left _ _ h in
-      let rest : (unfinished table s a && passes table s a (nextAction table s a)) ≡ true = and-right (ltb a (actorsOf table)) _ h in
-      let more : unfinished table s a ≡ true = and-left (unfinished table s a) (passes table s a (nextAction table s a)) rest in
+      let rest = and-right (ltb a (actorsOf table)) _ h in
+      let x : Action = nextAction table s a in
       rw (others-record table s a b ne)
-      (both in-table (both more (passes-lasts (nextAction table s a) (and-right (unfinished table s a) _ rest))))
+      (both in-table
+      (both (and-left (unfinished table s a) _ rest)
+      (taken-lasts (runsOver x (s .actor a .cells)) (passes table s a x) (passes table (step table s b) a x) (passes-lasts x)
+      (and-right (unfinished table s a) (isTaken (nextStep table s a)) rest))))
 
 -- an actor whose record and look are the same in two states is ready in both or in neither
 ready-same : (table : List ℕ) (s t : Site) (a : ℕ) → t .actor a ≡ s .actor a

@@ -9,6 +9,7 @@
 -- `Determined`: two states are equal when their reports are;
 -- `PageShape`: every line of a page has 101 characters, and no page passes 816 bytes;
 -- `SamePages`: exchanged schedules have the same page;
+-- `Over`: a step whose total would run over never becomes ready, and exchanged schedules meet it at the same entry;
 -- `Routes`: the route call's promise can be kept;
 -- `Beginnings`: a listing goes by the beginnings of its files alone.
 pub mod Upd
@@ -18,6 +19,7 @@ pub mod Queues
 pub mod Pairing
 pub mod Invariant
 pub mod Looks
+pub mod NextSteps
 pub mod Laws
 pub mod ReadyMask
 pub mod Checks
@@ -46,6 +48,7 @@ pub mod Decimal
 pub mod Columns
 pub mod PageShape
 pub mod SamePages
+pub mod Over
 pub mod TableBeginning
 pub mod Beginnings
 pub mod Cases
@@ -53,5 +56,6 @@ pub mod Examples
 pub mod Reports
 pub mod Corners
 pub mod PageExamples
+pub mod OverExamples
 pub mod Listings
 pub mod Forecourt

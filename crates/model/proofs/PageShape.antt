@@ -12,7 +12,7 @@ use Rattle.table.proofs.Promise.{promised}
 use Rattle.model.specs.Site.{Actor, Site}
 use Rattle.model.specs.Schedule.{endState}
 use Rattle.model.specs.Text.{decimal, space, left, right, line}
-use Rattle.model.specs.Page.{Status, ready, waits, finished, statusOf, statusWord, cellsText, actorText, page}
+use Rattle.model.specs.Page.{Status, ready, waits, over, finished, statusOf, statusWord, cellsText, actorText, page}
 use Rattle.model.specs.PageShape.{printable, LineShape, PageShape, PagesShaped}
 use Rattle.model.proofs.Decimal.{decimal-small, decimal-most, ten-digits}
 use Rattle.model.proofs.Columns.{length-right, printed-append, printed-decimal, printed-right, printed-parts, no-feed}
@@ -25,11 +25,13 @@ use Rattle.model.proofs.Reached.{reached-end}
 pub word-long : (status : Status) → length (left 8 (statusWord status)) ≡ 8
 word-long ready = refl
 word-long waits = refl
+word-long over = refl
 word-long finished = refl
 
 word-printed : (status : Status) → printable (left 8 (statusWord status)) ≡ true
 word-printed ready = refl
 word-printed waits = refl
+word-printed over = refl
 word-printed finished = refl
 
 module _ (cells : List ℕ) where
@@ -89,4 +91,4 @@ module _ (table : List ℕ) (ok : WellFormed table) (s : Site) (most : (a : ℕ)
 
 pub pages-shaped : PagesShaped
 pages-shaped table read bytes p h =
-    page-shape table (promised table read) (endState table p) (reached-end table p h .position-most) (small-end table bytes p)
+    page-shape table (promised table read) (endState table p) (reached-end table p h .position-most) (small-end table bytes p h)

@@ -1,8 +1,9 @@
--- Where every byte of the table is below 256, every cell and every value that a communication carries is below 2^32.
+-- Where every byte of the table is below 256, every cell and every value that a communication carries is below 2^32: a step whose total would not
+-- be is not taken.
 -- Assumes nothing.
 use Prim.Native.Nat.{ℕ, zero, suc, _+_, _^_, _<_}
 use native.Mathlib.Omega.{arith}
-use mathlib.Core.Path.{_≡_}
+use mathlib.Core.Path.{_≡_, ap}
 use mathlib.Core.Logic.{_⊎_, inl, inr}
 use mathlib.Core.Bool.{Bool, true, false}
 use mathlib.Core.List.{List, [], _∷_}
@@ -17,15 +18,18 @@ use Rattle.table.specs.Format.{byteAt, valueAt}
 use Rattle.table.specs.Decode.{decodeAs}
 use Rattle.trace.specs.Machine.{Name}
 use Rattle.trace.specs.Order.{eqName}
-use Rattle.trace.specs.Schedule.{final}
+use Rattle.trace.specs.Schedule.{accepted, final}
 use Rattle.trace.proofs.Bools.{which}
+use Rattle.trace.proofs.Run.{first-ready, rest-accepted}
 use Rattle.model.specs.Site.{upd, Side, sends, receives, Port, opposite, Comm, Mail, Site, name, initial}
-use Rattle.model.specs.Views.{listed, Post, silent, mails, joins, leaves, posts, looks, sent, pickUp}
+use Rattle.model.specs.Views.{listed, Post, silent, mails, joins, leaves, posts, looks, sent, pickUp, total, largest, runsOver}
 use Rattle.model.specs.Mail.{carried, pairValue, meetWith, mailing}
 use Rattle.model.specs.Local.{Seen, unseen, seen, first, see, placeSeen, pickUpSeen, cellsAfter}
-use Rattle.model.specs.Step.{actionAt, nextName, nextAction, step}
+use Rattle.model.specs.Step.{isTaken, actionAt, nextName, nextAction, passes, ready, step}
 use Rattle.model.specs.Schedule.{machine, endState}
 use Rattle.model.proofs.Invariant.{others-record}
+use Rattle.model.proofs.NextSteps.{taken-fits}
+use Rattle.model.proofs.Checks.{ready-parts}
 use Rattle.model.proofs.ReportBoundCells.{own-record}
 
 abbrev pub Small : ℕ → Type 0
@@ -132,22 +136,22 @@ pickUpSeen-small : (own : ℕ → Action) (found : Seen) (cells : List ℕ) → 
 pickUpSeen-small own unseen cells h w = h
 pickUpSeen-small own (seen place number value) cells h w = pickUp-small (own number) value cells h (w .1)
 
-cellsAfter-small : (own : ℕ → Action) (x : Action) (found : Seen) (cells : List ℕ) → SmallCells cells → Small (setValue x) → SmallSeen found
-    → SmallCells (cellsAfter own x found cells)
+cellsAfter-small : (own : ℕ → Action) (x : Action) (found : Seen) (cells : List ℕ) → SmallCells cells → Small (setValue x) → Small (total x cells)
+    → SmallSeen found → SmallCells (cellsAfter own x found cells)
 unfolding cellsAfter
-cellsAfter-small own (Set cell value) found cells h x w = set-small cells cell value h x
-cellsAfter-small own (Add cell other) found cells h x w = set-small cells cell _ h (omega arith)
-cellsAfter-small own (Lesser cell other) found cells h x w = set-small cells cell _ h (omega (arith, h cell))
-cellsAfter-small own (Send mailbox cell) found cells h x w = h
-cellsAfter-small own (Receive mailbox cell) found cells h x w = h
-cellsAfter-small own (TestAny result list) found cells h x w =
+cellsAfter-small own (Set cell value) found cells h x t w = set-small cells cell value h x
+cellsAfter-small own (Add cell other) found cells h x t w = set-small cells cell _ h t
+cellsAfter-small own (Lesser cell other) found cells h x t w = set-small cells cell _ h (omega (arith, h cell))
+cellsAfter-small own (Send mailbox cell) found cells h x t w = h
+cellsAfter-small own (Receive mailbox cell) found cells h x t w = h
+cellsAfter-small own (TestAny result list) found cells h x t w =
     set-small (pickUpSeen own found cells) result _ (pickUpSeen-small own found cells h w) (place-small found w)
-cellsAfter-small own (WaitAny result list) found cells h x w =
+cellsAfter-small own (WaitAny result list) found cells h x t w =
     set-small (pickUpSeen own found cells) result _ (pickUpSeen-small own found cells h w) (place-small found w)
-cellsAfter-small own (Lock mutex) found cells h x w = h
-cellsAfter-small own (Unlock mutex) found cells h x w = h
-cellsAfter-small own (MutexTest result list) found cells h x w = set-small cells result _ h (place-small found w)
-cellsAfter-small own (MutexWait result list) found cells h x w = set-small cells result _ h (place-small found w)
+cellsAfter-small own (Lock mutex) found cells h x t w = h
+cellsAfter-small own (Unlock mutex) found cells h x t w = h
+cellsAfter-small own (MutexTest result list) found cells h x t w = set-small cells result _ h (place-small found w)
+cellsAfter-small own (MutexWait result list) found cells h x t w = set-small cells result _ h (place-small found w)
 
 -- ---- the values that communications carry
 
@@ -198,30 +202,39 @@ pub small-initial : SmallSite initial
 unfolding initial
 small-initial = record { cells = λ a. zeros-small 8; values = λ x. omega arith }
 
+-- a step that is taken makes a total that fits
+pub total-small : (table : List ℕ) (s : Site) (a : ℕ) → ready table s a ≡ true → Small (total (nextAction table s a) (s .actor a .cells))
+total-small table s a r =
+    let x : Action = nextAction table s a in
+    let fits : runsOver x (s .actor a .cells) ≡ false =
+    taken-fits (runsOver x (s .actor a .cells)) (passes table s a x) (ap isTaken (ready-parts table s a r .2)) in
+    omega (arith, ltb-false largest (total x (s .actor a .cells)) fits)
+
 module _ (table : List ℕ) (bytes : (j : ℕ) → byteAt table j < 256) where
-  step-cells : (s : Site) (a : ℕ) → SmallSite s → (b : ℕ) → SmallCells (step table s a .actor b .cells)
-  step-cells s a h b = go (which (eqb b a))
+  step-cells : (s : Site) (a : ℕ) → ready table s a ≡ true → SmallSite s → (b : ℕ) → SmallCells (step table s a .actor b .cells)
+  step-cells s a r h b = go (which (eqb b a))
     where
       go : (eqb b a ≡ true) ⊎ (eqb b a ≡ false) → SmallCells (step table s a .actor b .cells)
       go (inl e) =
           rw (eqb-true b a e, own-record table s a)
           (cellsAfter-small (λ k. actionAt table (name a k)) (nextAction table s a) (see s a (looks (nextAction table s a))) (s .actor a .cells)
-          (h .cells a) (action-small table bytes (nextName table s a)) (see-small s (h .values) a (nextAction table s a)))
+          (h .cells a) (action-small table bytes (nextName table s a)) (total-small table s a r) (see-small s (h .values) a (nextAction table s a)))
       go (inr e) = rw (others-record table s b a (eqb-false b a e)) (h .cells b)
 
-  pub small-step : (s : Site) (a : ℕ) → SmallSite s → SmallSite (step table s a)
+  pub small-step : (s : Site) (a : ℕ) → ready table s a ≡ true → SmallSite s → SmallSite (step table s a)
   unfolding step
-  small-step s a h =
+  small-step s a r h =
       record {
-        cells = step-cells s a h;
+        cells = step-cells s a r h;
         values =
             mailing-small (posts (nextAction table s a)) (nextName table s a) _ (s .mail) (h .values)
             (sent-small (nextAction table s a) (s .actor a .cells) (h .cells a));
       }
 
-  pub small-final : (s : Site) (p : List ℕ) → SmallSite s → SmallSite (final (machine table) s p)
-  small-final s [] h = h
-  small-final s (a ∷ p) h = small-final (step table s a) p (small-step s a h)
+  pub small-final : (s : Site) (p : List ℕ) → accepted (machine table) s p ≡ true → SmallSite s → SmallSite (final (machine table) s p)
+  small-final s [] taken h = h
+  small-final s (a ∷ p) taken h =
+      small-final (step table s a) p (rest-accepted (machine table) s a p taken) (small-step s a (first-ready (machine table) s a p taken) h)
 
-  pub small-end : (p : List ℕ) → SmallSite (endState table p)
-  small-end p = small-final initial p small-initial
+  pub small-end : (p : List ℕ) → accepted (machine table) initial p ≡ true → SmallSite (endState table p)
+  small-end p taken = small-final initial p taken small-initial

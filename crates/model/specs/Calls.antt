@@ -45,7 +45,7 @@ fills checks written buffer = record { result = answer checks (length written); 
 abbrev pub reportRoom : ℕ
 reportRoom = 2912
 
--- 10, then 1 to 9, then 11 to 13
+-- 10, then 1 to 9, then 11 to 13 and 21, entry by entry
 abbrev pub runChecks : List ℕ → List ℕ → List ℕ → Outcome
 runChecks table schedule buffer =
     demand (leb reportRoom (length buffer)) 10 0 ⨾ readOf table ⨾ checkSchedule firstNumbers table schedule
@@ -56,7 +56,7 @@ runOf table schedule buffer = fills (runChecks table schedule buffer) (report ta
 
 -- ---- ready
 
--- 1 to 9, then 11 to 13
+-- 1 to 9, then 11 to 13 and 21, entry by entry
 abbrev pub readyChecks : List ℕ → List ℕ → Outcome
 readyChecks table schedule = readOf table ⨾ checkSchedule firstNumbers table schedule
 
@@ -84,7 +84,7 @@ pairOf table x y = answer (pairChecks table x y) (cond (depends table x y) depen
 pub data SameVerdict : Type 0 where
   same different : SameVerdict
 
--- 1 to 9, then 11 to 13 over the first schedule, then 14 to 16 over the second
+-- 1 to 9, then 11 to 13 and 21 over the first schedule, then 14 to 16 and 22 over the second
 abbrev pub sameChecks : List ℕ → List ℕ → List ℕ → Outcome
 sameChecks table first second =
     readOf table ⨾ checkSchedule firstNumbers table first ⨾ checkSchedule secondNumbers table second

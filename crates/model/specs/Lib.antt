@@ -1,6 +1,6 @@
 -- Document 01 as definitions, in its order: the state, an action's views, stepping, the ready answer, the pair verdict, the state report, and
 -- the outcome of each call for every input. Then what is proved of them: the four cases of the pair verdict, demand 3, what holds of every
--- reached state, and that a report determines its state.
+-- reached state, that a report determines its state, the page's shape, and totals that run over.
 pub mod Site
 pub mod Views
 pub mod Mutex
@@ -24,11 +24,13 @@ pub mod Bound
 pub mod Reached
 pub mod Determined
 pub mod PageShape
+pub mod Over
 pub mod Claims
 pub mod Cases
 pub mod Examples
 pub mod Reports
 pub mod Corners
 pub mod PageExamples
+pub mod OverExamples
 pub mod Listings
 pub mod Forecourt

@@ -46,7 +46,7 @@ abbrev pub linesOf : Outcome → List ℕ → List ℕ
 linesOf accepted lines = lines
 linesOf (refused number position) lines = line (refusedText number position)
 
--- the run's checks are ready's, since a listing has no report buffer: 1 to 9, then 11 to 13
+-- the run's checks are ready's, since a listing has no report buffer: 1 to 9, then 11 to 13 and 21
 unfoldable pub listingOf : (table schedule : List ℕ) → List ℕ
 listingOf table schedule = linesOf (readyChecks table schedule) (runLines table schedule)
 

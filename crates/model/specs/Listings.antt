@@ -8,7 +8,7 @@ use lib.ListN.{set}
 use Rattle.model.specs.Listing.{listingOf}
 use Rattle.model.specs.Claims.{lines}
 use Rattle.model.specs.Cases.{tableA}
-use Rattle.model.specs.Examples.{site, receive, waitAny}
+use Rattle.model.specs.Examples.{plain, sets, site, receive, waitAny}
 
 -- a table, a schedule and their listing, line by line
 pub record Listed : Type 0 where
@@ -37,6 +37,17 @@ listings =
       table = tableA;
       schedule = 1 ∷ 1 ∷ [];
       text = "refused 13 at 1" ∷ [];
+    }
+    -- an Add that would run over: not stepped it leaves the site stuck, stepped it is refused
+    ∷ record {
+      table = site ((sets 0 2147483648 ∷ plain 1 0 0 ∷ []) ∷ []);
+      schedule = 0 ∷ [];
+      text = "0 0" ∷ "end stuck" ∷ [];
+    }
+    ∷ record {
+      table = site ((sets 0 2147483648 ∷ plain 1 0 0 ∷ []) ∷ []);
+      schedule = 0 ∷ 0 ∷ [];
+      text = "refused 21 at 1" ∷ [];
     }
     -- both files absent
     ∷ record {

@@ -1,13 +1,13 @@
 -- What a step sees of the rest of the state, and the local step that its own record takes.
 -- Assumes nothing: these are definitions.
-use Prim.Native.Nat.{ℕ, suc, _+_, _%_, _^_, min}
+use Prim.Native.Nat.{ℕ, suc, min}
 use mathlib.Core.Bool.{Bool, true, false, cond}
 use mathlib.Core.List.{List, [], _∷_}
 use lib.ListN.{getD, set}
 use Rattle.table.specs.declared.Action.{Action}
 use Rattle.table.specs.declared.Action.the-variants.{Set, Add, Lesser, Send, Receive, TestAny, WaitAny, Lock, Unlock, MutexTest, MutexWait}
 use Rattle.model.specs.Site.{Actor, Site, name}
-use Rattle.model.specs.Views.{Look, blind, communications, mutexes, pickUp}
+use Rattle.model.specs.Views.{Look, blind, communications, mutexes, pickUp, total}
 use Rattle.model.specs.Mutex.{owns}
 use Rattle.model.specs.Mail.{isDone, carried}
 
@@ -45,7 +45,7 @@ pickUpSeen own (seen place number value) cells = pickUp (own number) value cells
 -- the cells after an action: a Set, Add and Lesser; after a test or wait the place goes into the result cell, which is written last
 unfoldable pub cellsAfter : (ℕ → Action) → Action → Seen → List ℕ → List ℕ
 cellsAfter own (Set cell value) found cells = set cells cell value
-cellsAfter own (Add cell other) found cells = set cells cell ((getD cells cell 0 + getD cells other 0) % 2 ^ 32)
+cellsAfter own (Add cell other) found cells = set cells cell (total (Add cell other) cells)
 cellsAfter own (Lesser cell other) found cells = set cells cell (min (getD cells cell 0) (getD cells other 0))
 cellsAfter own (Send mailbox cell) found cells = cells
 cellsAfter own (Receive mailbox cell) found cells = cells

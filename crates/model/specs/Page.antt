@@ -1,4 +1,5 @@
--- The page of a state: a line for each actor of the table, in columns; and the outcome of the page call for every input (document 02, W1).
+-- The page of a state: a line for each actor of the table, in columns; and the outcome of the page call for every input (document 02, W1
+-- and W2).
 -- Assumes nothing: these are definitions.
 use Prim.Native.Nat.{ℕ}
 use mathlib.Core.Bool.{cond}
@@ -18,15 +19,21 @@ use Rattle.model.specs.Calls.{Filled, fills}
 -- ---- the status
 
 pub data Status : Type 0 where
-  ready waits finished : Status
+  ready waits over finished : Status
 
--- of an actor of the table: an actor that is not finished and not ready waits
+abbrev pub stepStatus : Step.NextStep → Status
+stepStatus Step.taken = ready
+stepStatus Step.waiting = waits
+stepStatus Step.over = over
+
+-- of an actor of the table: finished, or by its next step
 abbrev pub statusOf : (table : List ℕ) → Site → ℕ → Status
-statusOf table s a = cond (Step.unfinished table s a) (cond (Step.ready table s a) ready waits) finished
+statusOf table s a = cond (Step.unfinished table s a) (stepStatus (Step.nextStep table s a)) finished
 
 abbrev pub statusWord : Status → List ℕ
 statusWord ready = ascii "ready"
 statusWord waits = ascii "waits"
+statusWord over = ascii "over"
 statusWord finished = ascii "finished"
 
 -- ---- the page
@@ -53,7 +60,7 @@ page table s = parts (λ a. line (actorText a (s .actor a) (statusOf table s a))
 abbrev pub pageRoom : ℕ
 pageRoom = 816
 
--- 20, then 1 to 9, then 11 to 13
+-- 20, then 1 to 9, then 11 to 13 and 21, entry by entry
 abbrev pub pageChecks : (table schedule buffer : List ℕ) → Outcome
 pageChecks table schedule buffer =
     demand (leb pageRoom (length buffer)) 20 0 ⨾ readOf table ⨾ checkSchedule firstNumbers table schedule

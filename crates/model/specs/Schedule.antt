@@ -3,12 +3,12 @@
 use Prim.Native.Nat.{ℕ, suc}
 use mathlib.Core.List.{List, [], _∷_}
 use lib.Dec.{ltb}
-use Rattle.table.specs.Outcome.{Outcome, accepted, demand, _⨾_}
+use Rattle.table.specs.Outcome.{Outcome, accepted, refused, demand, _⨾_}
 use Rattle.table.specs.Format.{actorsOf}
 use Rattle.trace.specs.Machine.{Machine}
 use Rattle.trace.specs.Schedule.{final}
 use Rattle.model.specs.Site.{Site, initial}
-use Rattle.model.specs.Step.{unfinished, ready, step}
+use Rattle.model.specs.Step.{NextStep, taken, waiting, over, unfinished, nextStep, ready, step}
 use Rattle.model.specs.Pair.{depends}
 
 -- the machine of a table: its states are sites, its pair verdict goes by the table
@@ -26,17 +26,24 @@ machine table =
 abbrev pub endState : List ℕ → List ℕ → Site
 endState table schedule = final (machine table) initial schedule
 
--- the numbers of a schedule's refusals: no such actor; finished; not ready
+-- the numbers of a schedule's refusals: no such actor; finished; the step waits; it is an Add that runs over
 pub record RefusalNumbers : Type 0 where
   pub absent : ℕ
   pub finished : ℕ
   pub waiting : ℕ
+  pub over : ℕ
 
 abbrev pub firstNumbers : RefusalNumbers
-firstNumbers = record { absent = 11; finished = 12; waiting = 13 }
+firstNumbers = record { absent = 11; finished = 12; waiting = 13; over = 21 }
 
 abbrev pub secondNumbers : RefusalNumbers
-secondNumbers = record { absent = 14; finished = 15; waiting = 16 }
+secondNumbers = record { absent = 14; finished = 15; waiting = 16; over = 22 }
+
+-- the next step of an entry's actor, by what it is
+abbrev pub checkStep : RefusalNumbers → NextStep → (index : ℕ) → Outcome
+checkStep n taken index = accepted
+checkStep n waiting index = refused (n .waiting) index
+checkStep n over index = refused (n .over) index
 
 module _ (n : RefusalNumbers) (table : List ℕ) where
   -- the entry at an index, in the state that the entries before it left
@@ -44,7 +51,7 @@ module _ (n : RefusalNumbers) (table : List ℕ) where
   checkEntry s a index =
       demand (ltb a (actorsOf table)) (n .absent) index
       ⨾ demand (unfinished table s a) (n .finished) index
-      ⨾ demand (ready table s a) (n .waiting) index
+      ⨾ checkStep n (nextStep table s a) index
 
   abbrev pub checkFrom : Site → ℕ → List ℕ → Outcome
   checkFrom s index [] = accepted

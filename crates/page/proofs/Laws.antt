@@ -1,30 +1,30 @@
 -- The page over the engine's arrays: an actor's line by its record, and that the ports' logs play no part.
 -- Assumes nothing.
 use mathlib.Core.Path.{_≡_, refl, _∙_, ap, sym}
-use mathlib.Core.Bool.{Bool, cond}
+use mathlib.Core.Bool.{cond}
 use mathlib.Core.List.{List, []}
-use Prim.Native.Nat.{ℕ, _<_}
-use native.Mathlib.Omega.{arith}
+use Prim.Native.Nat.{ℕ}
 use lib.Dec.{ltb}
 use lib.ListN.{getD}
 use Rattle.table.specs.Format.{actorsOf, countOf}
 use Rattle.model.specs.Report.{parts}
 use Rattle.model.specs.Text.{line}
-use Rattle.model.specs.Page.{Status, ready, waits as waiting, finished, statusOf, actorText, page}
+use Rattle.model.specs.Step.{NextStep}
+use Rattle.model.specs.Page.{Status, finished, stepStatus, statusOf, actorText, page}
 use Rattle.model.proofs.Parts.{parts-same}
 use Rattle.state.specs.declared.Actor.{Actor}
 use Rattle.state.specs.State.{recordOf, recordsOf, siteOf, freshActor}
 use Rattle.readiness.specs.Parts.{siteWith}
-use Rattle.readiness.proofs.Laws.{ready-looks, looks-alone}
+use Rattle.readiness.proofs.Laws.{step-looks}
 use Rattle.page.specs.Parts.{statusFrom, pageFrom}
 
 -- an actor's status, by its record
 module _ (table : List ℕ) (actors : List Actor) (comms queues : List ℕ) where
-  pub status-from : (log ends : List ℕ) (a : ℕ) → a < actorsOf table
+  pub status-from : (log ends : List ℕ) (a : ℕ)
       → statusOf table (siteWith actors comms queues log ends) a ≡ statusFrom table a (getD actors a freshActor) comms queues
-  status-from log ends a h =
-      ap (λ (b : Bool). cond (ltb (getD actors a freshActor .position) (countOf table a)) (cond b ready waiting) finished)
-      (ready-looks table actors comms queues log ends a h ∙ looks-alone table a (getD actors a freshActor) comms queues log ends)
+  status-from log ends a =
+      ap (λ (t : NextStep). cond (ltb (getD actors a freshActor .position) (countOf table a)) (stepStatus t) finished)
+      (step-looks table actors comms queues log ends [] [] a)
 
   -- the page of the whole state
   pub page-from : (log ends : List ℕ) → page table (siteOf actors comms log ends queues) ≡ pageFrom table actors comms queues
@@ -33,7 +33,7 @@ module _ (table : List ℕ) (actors : List Actor) (comms queues : List ℕ) wher
       parts-same _ _ (actorsOf table) 0
       (λ a l h.
       ap (λ (t : Status). line (actorText a (recordsOf actors a) t))
-      (status-from log ends a (omega arith) ∙ sym (status-from [] [] a (omega arith))))
+      (status-from log ends a ∙ sym (status-from [] [] a)))
 
   -- line by line
   abbrev pub lineFrom : ℕ → List ℕ
@@ -43,9 +43,9 @@ module _ (table : List ℕ) (actors : List Actor) (comms queues : List ℕ) wher
   unfolding page
   page-lines = refl
 
-  pub line-from : (a : ℕ) → a < actorsOf table → (r : Actor) → r ≡ getD actors a freshActor → (t : Status) → t ≡ statusFrom table a r comms queues
+  pub line-from : (a : ℕ) (r : Actor) → r ≡ getD actors a freshActor → (t : Status) → t ≡ statusFrom table a r comms queues
       → line (actorText a (recordOf r) t) ≡ lineFrom a
-  line-from a h r same t status =
+  line-from a r same t status =
       let right : t ≡ statusOf table (siteWith actors comms queues [] []) a =
-      status ∙ ap (λ (x : Actor). statusFrom table a x comms queues) same ∙ sym (status-from [] [] a h) in
+      status ∙ ap (λ (x : Actor). statusFrom table a x comms queues) same ∙ sym (status-from [] [] a) in
       λ i. line (actorText a (recordOf (same i)) (right i))

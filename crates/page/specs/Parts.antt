@@ -9,19 +9,20 @@ use Rattle.table.specs.Format.{countOf}
 use Rattle.model.specs.Page as Model
 use Rattle.state.specs.declared.Actor.{Actor}
 use Rattle.state.specs.State.{Positions}
-use Rattle.readiness.specs.Parts.{Answerable, siteWith, looksReady}
+use Rattle.readiness.specs.Parts.{Answerable, siteWith, stepFrom}
 use Rattle.page.specs.declared.Status.{Status}
 use Rattle.page.specs.declared.Status.the-variants as case
 
 abbrev pub statusAs : Status → Model.Status
 statusAs case.Ready = Model.ready
 statusAs case.Waits = Model.waits
+statusAs case.Over = Model.over
 statusAs case.Finished = Model.finished
 
 -- the status of an actor with the record r
 abbrev pub statusFrom : List ℕ → ℕ → Actor → (comms queues : List ℕ) → Model.Status
 statusFrom table a r comms queues =
-    cond (ltb (r .position) (countOf table a)) (cond (looksReady table a r comms queues [] []) Model.ready Model.waits) Model.finished
+    cond (ltb (r .position) (countOf table a)) (Model.stepStatus (stepFrom table a r comms queues [] [])) Model.finished
 
 -- the page of the state in the arrays: the ports' logs play no part in it
 abbrev pub pageFrom : List ℕ → List Actor → (comms queues : List ℕ) → List ℕ

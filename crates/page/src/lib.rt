@@ -11,12 +11,14 @@ ghost use Rattle.readiness.specs.Parts.{Looked};
 ghost use Rattle.writing.specs.Written.{Wrote};
 ghost use Rattle.page.specs.Parts.{statusAs, statusFrom, pageFrom, Pageable};
 use state::Actor;
+use state::NextStep;
 use table::access;
 
 // How an actor stands.
 pub enum Status {
     Ready,
     Waits,
+    Over,
     Finished,
 }
 
@@ -43,19 +45,21 @@ pub fn write(
     at
 }
 
-// An actor that is not finished and not ready waits.
+// An actor is finished, or stands as its next step does.
 fn status_of(table: &[u8], a: usize, r: Actor, comms: &[u64; 256], queues: &[u8; 72]) -> Status
-    requires { ⌜ Looked (now table) a (now comms) (now queues) ⌝ }
+    requires { ⌜ Looked (now table) a r (now comms) (now queues) ⌝ }
     ensures { λ s. ⌜ statusAs s ≡ statusFrom (now (table .entry)) a r (now (comms .entry)) (now (queues .entry)) ⌝ }
 {
     let k = r.position;
     if access::actions(table, a) <= k {
         return Status::Finished;
     }
-    if readiness::is_ready(table, a, r, comms, queues) {
-        return Status::Ready;
+    let next = readiness::next_step(table, a, r, comms, queues);
+    match next {
+        NextStep::Taken => Status::Ready,
+        NextStep::Waits => Status::Waits,
+        NextStep::Over => Status::Over,
     }
-    Status::Waits
 }
 
 // An actor's line: its number, its position, its status, its cells.
@@ -81,6 +85,7 @@ fn status_part(status: Status, buf: &mut [u8]) -> usize
     match status {
         Status::Ready => text::put(b" ready   ", buf),
         Status::Waits => text::put(b" waits   ", buf),
+        Status::Over => text::put(b" over    ", buf),
         Status::Finished => text::put(b" finished", buf),
     }
 }

@@ -26,7 +26,7 @@ module _ {table schedule comms log ends queues names : List ℕ} {actors : List 
   -- of a file of bytes, no page's length passes 816
   pub page-small : Bytes table → length (pageFrom table actors comms queues) ≤ 816
   page-small bytes =
-      let shape = page-shape table (E .promise) (endState table schedule) (reached-end table schedule (all-taken E) .position-most) (small-end table bytes schedule) in
+      let shape = page-shape table (E .promise) (endState table schedule) (reached-end table schedule (all-taken E) .position-most) (small-end table bytes schedule (all-taken E)) in
       subst (λ (l : List ℕ). length l ≤ 816) (sym (page-held ∙ ap (page table) (E .end .site))) (shape .page-most)
 
   pub pageable : Bytes table → (buffer : List ℕ) → 816 ≤ length buffer → Pageable table actors comms queues buffer

@@ -1,15 +1,15 @@
 -- One entry of a schedule, with the actor and its record as the code has them.
 -- Assumes nothing.
 use mathlib.Core.Path.{_≡_, sym, subst}
-use mathlib.Core.Bool.{true, false}
+use mathlib.Core.Bool.{false}
 use mathlib.Core.List.{List}
 use Prim.Native.Nat.{ℕ, _+_, _*_, _<_, _≤_}
 use lib.ListN.{length, getD, set}
 use Rattle.table.specs.Outcome.{refused}
 use Rattle.table.specs.Format.{actorsOf, countOf}
-use Rattle.model.specs.Step.{passes}
-use Rattle.model.specs.Schedule.{RefusalNumbers, checkSchedule}
-use Rattle.state.specs.State.{freshActor, mailOf, queuesOf, nextOf, seenFrom}
+use Rattle.model.specs.Step.{NextStep, taken, isTaken, stepOf}
+use Rattle.model.specs.Schedule.{RefusalNumbers, checkStep, checkSchedule}
+use Rattle.state.specs.State.{freshActor, mailOf, queuesOf, nextOf, seenFrom, stepAs}
 use Rattle.step.specs.Parts.{Steppable, StepTaken}
 use Rattle.play.specs.Parts.{PlayedRight, haltOf}
 use Rattle.state.specs.declared.Actor.{Actor}
@@ -17,7 +17,7 @@ use Rattle.step.specs.declared.Stepped.{Stepped}
 use Rattle.play.specs.declared.Halt.the-variants.{End}
 use Rattle.play.specs.declared.Played.{Played}
 use Rattle.play.proofs.Playing.{Playing}
-use Rattle.play.proofs.Next.{entry-finished, entry-waiting, steppable, room-here, playing-next}
+use Rattle.play.proofs.Next.{entry-finished, entry-untaken, steppable, room-here, playing-next}
 
 -- what a halt before the end says of the schedule is all that is to be shown
 pub refusal : {table schedule comms log ends queues names′ : List ℕ} (r : Played) → (r .halt ≡ End → ⊥)
@@ -38,39 +38,39 @@ module _ {table schedule comms log ends queues names′ : List ℕ} {actors : Li
       (λ b q. b < actorsOf table → countOf table b ≤ q .position → (n : RefusalNumbers) → refused (n .finished) i ≡ checkSchedule n table schedule)
       (entry-finished P more)
 
-  pub waiting-as : a < actorsOf table → r .position < countOf table a
-      → passes table (seenFrom r (mailOf comms log ends) (queuesOf queues)) a (nextOf table a r) ≡ false
-      → (n : RefusalNumbers) → refused (n .waiting) i ≡ checkSchedule n table schedule
-  waiting-as =
+  pub untaken-as : a < actorsOf table → r .position < countOf table a
+      → (t : NextStep) → stepOf table (seenFrom r (mailOf comms log ends) (queuesOf queues)) a (nextOf table a r) ≡ t → isTaken t ≡ false
+      → (n : RefusalNumbers) → checkStep n t i ≡ checkSchedule n table schedule
+  untaken-as =
       as-read
       (λ b q.
       b < actorsOf table → q .position < countOf table b
-      → passes table (seenFrom q (mailOf comms log ends) (queuesOf queues)) b (nextOf table b q) ≡ false
-      → (n : RefusalNumbers) → refused (n .waiting) i ≡ checkSchedule n table schedule)
-      (entry-waiting P more)
+      → (t : NextStep) → stepOf table (seenFrom q (mailOf comms log ends) (queuesOf queues)) b (nextOf table b q) ≡ t → isTaken t ≡ false
+      → (n : RefusalNumbers) → checkStep n t i ≡ checkSchedule n table schedule)
+      (entry-untaken P more)
 
   pub steppable-as : a < actorsOf table → r .position < countOf table a → Steppable table a r comms log ends queues
   steppable-as =
       as-read (λ b q. b < actorsOf table → q .position < countOf table b → Steppable table b q comms log ends queues) (steppable P more)
 
   pub room-as : {comms′ log′ ends′ queues′ : List ℕ} {s : Stepped} → a < actorsOf table → r .position < countOf table a
-      → StepTaken table a (nextOf table a r) r comms log ends queues comms′ log′ ends′ queues′ s → s .ready ≡ true
+      → StepTaken table a (nextOf table a r) r comms log ends queues comms′ log′ ends′ queues′ s → stepAs (s .next) ≡ taken
       → i < 256
   room-as {comms′} {log′} {ends′} {queues′} {s} =
       as-read
       (λ b q.
       b < actorsOf table → q .position < countOf table b
-      → StepTaken table b (nextOf table b q) q comms log ends queues comms′ log′ ends′ queues′ s → s .ready ≡ true
+      → StepTaken table b (nextOf table b q) q comms log ends queues comms′ log′ ends′ queues′ s → stepAs (s .next) ≡ taken
       → i < 256)
       (λ in-table left taken go. room-here P more in-table left taken go)
 
   pub next-as : {comms′ log′ ends′ queues′ : List ℕ} {s : Stepped} → a < actorsOf table → r .position < countOf table a
-      → StepTaken table a (nextOf table a r) r comms log ends queues comms′ log′ ends′ queues′ s → s .ready ≡ true
+      → StepTaken table a (nextOf table a r) r comms log ends queues comms′ log′ ends′ queues′ s → stepAs (s .next) ≡ taken
       → Playing table schedule comms′ log′ ends′ queues′ (set names′ i (32 * a + r .position)) (set actors a (s .actor)) (i + 1)
   next-as {comms′} {log′} {ends′} {queues′} {s} =
       as-read
       (λ b q.
       b < actorsOf table → q .position < countOf table b
-      → StepTaken table b (nextOf table b q) q comms log ends queues comms′ log′ ends′ queues′ s → s .ready ≡ true
+      → StepTaken table b (nextOf table b q) q comms log ends queues comms′ log′ ends′ queues′ s → stepAs (s .next) ≡ taken
       → Playing table schedule comms′ log′ ends′ queues′ (set names′ i (32 * b + q .position)) (set actors b (s .actor)) (i + 1))
       (λ in-table left taken go. playing-next P more in-table left taken go)

@@ -1,7 +1,7 @@
 -- From one entry of a schedule to the next: what a step may rely on, what it leaves, and what an entry that is refused makes of the schedule's checks.
 -- Assumes nothing.
 use mathlib.Core.Path.{_≡_, refl, _∙_, ap, ap₂, sym, subst}
-use mathlib.Core.Bool.{Bool, true, false, not, _||_}
+use mathlib.Core.Bool.{Bool, true, false, not, _||_, true≢false}
 use mathlib.Core.Logic.{_⊎_, inl, inr}
 use mathlib.Core.List.{List, [], _∷_, _++_, map}
 use Prim.Native.Nat.{ℕ, suc, _+_, _*_, _<_, _≤_}
@@ -13,34 +13,42 @@ use lib.Dec.{eqb, ltb}
 use lib.ListN.{length, getD, take, drop, set, length-set, take-append-drop}
 use lib.Seq.{take-suc, drop-cons, take-suc-set, getD-set-same, getD-set-other, length-take-le}
 use Rattle.table.specs.declared.Action.{Action}
-use Rattle.table.specs.Outcome.{refused}
+use Rattle.table.specs.Outcome.{Outcome, refused, _⨾_}
 use Rattle.table.specs.Format.{actorsOf, countOf}
 use Rattle.table.specs.Decode.{actionOf}
 use Rattle.trace.specs.Machine.{Name}
 use Rattle.trace.specs.Schedule.{accepted, final, names}
 use Rattle.trace.proofs.Bools.{which}
 use Rattle.model.specs.Site.{Site, Actor as Record, upd, name, initial}
-use Rattle.model.specs.Views.{looks, waits}
+use Rattle.model.specs.Views.{looks, waits, runsOver}
 use Rattle.model.specs.Mutex.{join}
 use Rattle.model.specs.Local.{Seen, see, isSeen, local}
-use Rattle.model.specs.Step.{unfinished, passes, ready, step}
-use Rattle.model.specs.Schedule.{machine, RefusalNumbers, checkFrom, checkSchedule}
+use Rattle.model.specs.Step.{NextStep, taken, waiting, over, isTaken, unfinished, stepOf, nextStep, ready, step}
+use Rattle.model.specs.Schedule.{machine, RefusalNumbers, checkStep, checkFrom, checkSchedule}
+use Rattle.model.proofs.NextSteps.{judged}
 use Rattle.model.proofs.Reached.{reached-end}
 use Rattle.model.proofs.ReportBoundCells.{cellsAfter-length}
 use Rattle.model.proofs.ReportBound.{entries-room}
 use Rattle.names.specs.InByte.{nameOf}
-use Rattle.state.specs.State.{recordOf, recordsOf, freshActor, mailOf, queuesOf, siteOf, EightCells, nextOf, seenFrom}
+use Rattle.state.specs.State.{recordOf, recordsOf, freshActor, mailOf, queuesOf, siteOf, EightCells, nextOf, seenFrom, stepAs}
 use Rattle.step.specs.Parts.{Steppable, StepTaken}
 use Rattle.state.specs.declared.Actor.{Actor}
 use Rattle.step.specs.declared.Stepped.{Stepped}
 use Rattle.names.proofs.InByte.{name-byte}
-use Rattle.play.proofs.Prefix.{accepted-more, final-more, names-more, checks-after}
+use Rattle.model.proofs.Checks.{parts-ready, checks-after}
+use Rattle.play.proofs.Prefix.{accepted-more, final-more, names-more}
 use Rattle.play.proofs.Playing.{reached, Playing, records-set, join-most}
 use Rattle.look.proofs.Sees.{see-parts}
 
 map-more : (f : ℕ → Name) (l : List ℕ) (x : ℕ) → map f (l ++ (x ∷ [])) ≡ map f l ++ (f x ∷ [])
 map-more f [] x = refl
 map-more f (y ∷ l) x = ap (λ (r : List Name). f y ∷ r) (map-more f l x)
+
+-- what follows a step that is not taken plays no part
+step-decides : (n : RefusalNumbers) (t : NextStep) (i : ℕ) (after : Outcome) → isTaken t ≡ false → checkStep n t i ≡ (checkStep n t i ⨾ after)
+step-decides n taken i after h = absurd (true≢false h)
+step-decides n waiting i after h = refl
+step-decides n over i after h = refl
 
 module _ {table schedule comms log ends queues names′ : List ℕ} {actors : List Actor} {i : ℕ}
     (P : Playing table schedule comms log ends queues names′ actors i) where
@@ -69,7 +77,7 @@ module _ {table schedule comms log ends queues names′ : List ℕ} {actors : Li
 
     checks-here : (n : RefusalNumbers) → checkSchedule n table schedule ≡ checkFrom n table (reached table schedule i) i (a ∷ drop (suc i) schedule)
     checks-here n =
-        ap (checkFrom n table initial 0) (sym (take-append-drop i schedule)) ∙ checks-after n table initial 0 (take i schedule) (drop i schedule) (P .taken)
+        ap (checkFrom n table initial 0) (sym (take-append-drop i schedule)) ∙ checks-after table n initial 0 (take i schedule) (drop i schedule) (P .taken)
         ∙ ap₂ (checkFrom n table (reached table schedule i)) (zero-add (length (take i schedule)) ∙ length-take-le i schedule (P .index))
         (drop-cons schedule i 0 more)
 
@@ -91,19 +99,22 @@ module _ {table schedule comms log ends queues names′ : List ℕ} {actors : Li
         still : unfinished table (reached table schedule i) a ≡ true
         still = unfinished-here true (lt-ltb (r .position) (countOf table a) left)
 
-        -- the step's own view decides whether the actor is ready
-        ready-here : (test : Bool) → passes table (seenFrom r (mailOf comms log ends) (queuesOf queues)) a x ≡ test
-            → ready table (reached table schedule i) a ≡ test
-        unfolding ready
-        ready-here test e =
-            sym (ap (λ (s : Site). ready table s a) (P .site))
-            ∙ rw (lt-ltb a (actorsOf table) in-table, lt-ltb (r .position) (countOf table a) left)
-            (ap (λ (s : Seen). not (waits x) || isSeen s) (see-parts here (seenFrom r (mailOf comms log ends) (queuesOf queues)) a (looks x) refl refl)
-            ∙ e)
+        -- the step's own view decides what the step is
+        step-here : nextStep table (reached table schedule i) a ≡ stepOf table (seenFrom r (mailOf comms log ends) (queuesOf queues)) a x
+        step-here =
+            sym (ap (λ (s : Site). nextStep table s a) (P .site))
+            ∙ ap (λ (s : Seen). judged (runsOver x (r .cells)) (not (waits x) || isSeen s))
+            (see-parts here (seenFrom r (mailOf comms log ends) (queuesOf queues)) a (looks x) refl refl)
 
-        pub entry-waiting : passes table (seenFrom r (mailOf comms log ends) (queuesOf queues)) a x ≡ false
-            → (n : RefusalNumbers) → refused (n .waiting) i ≡ checkSchedule n table schedule
-        entry-waiting e n = sym (checks-here n ∙ rw (lt-ltb a (actorsOf table) in-table, still, ready-here false e))
+        -- a step that is not taken is refused by what it is
+        pub entry-untaken : (t : NextStep) → stepOf table (seenFrom r (mailOf comms log ends) (queuesOf queues)) a x ≡ t → isTaken t ≡ false
+            → (n : RefusalNumbers) → checkStep n t i ≡ checkSchedule n table schedule
+        entry-untaken t e not n =
+            step-decides n t i (checkFrom n table (step table (reached table schedule i) a) (suc i) (drop (suc i) schedule)) not
+            ∙ sym (checks-here n ∙ rw (lt-ltb a (actorsOf table) in-table, still, step-here ∙ e))
+
+        ready-here : stepOf table (seenFrom r (mailOf comms log ends) (queuesOf queues)) a x ≡ taken → ready table (reached table schedule i) a ≡ true
+        ready-here e = parts-ready table (reached table schedule i) a (lt-ltb a (actorsOf table) in-table) still (ap isTaken (step-here ∙ e))
 
         -- ---- a step
 
@@ -125,18 +136,16 @@ module _ {table schedule comms log ends queues names′ : List ℕ} {actors : Li
               eight = P .eight a;
               mail-room = P .mail-room;
               queue-room = P .queue-room;
-              tail-room = λ passing n.
-                  let small = room-more (ready-here true (ap (λ (w : Bool). not w || isSeen (see (seenFrom r (mailOf comms log ends) (queuesOf queues)) a (looks x))) passing)) in
-                  omega (arith, P .tail-room n);
+              tail-room = λ e n. let small = room-more (ready-here e) in omega (arith, P .tail-room n);
               join-room = λ m.
                   subst (λ (q : ℕ → List ℕ). length (join (q m) a) ≤ 8) (sym (ap (λ (s : Site). s .queue) (P .site)))
                   (join-most table (reached table schedule i) a (P .accepted-table) (reached-end table (take i schedule) (P .taken)) in-table m);
             }
 
         module _ {comms′ log′ ends′ queues′ : List ℕ} {s : Stepped}
-            (T : StepTaken table a x r comms log ends queues comms′ log′ ends′ queues′ s) (go : s .ready ≡ true) where
+            (T : StepTaken table a x r comms log ends queues comms′ log′ ends′ queues′ s) (go : stepAs (s .next) ≡ taken) where
           was-ready : ready table (reached table schedule i) a ≡ true
-          was-ready = ready-here true (sym (T .ready-right) ∙ go)
+          was-ready = ready-here (sym (T .next-right) ∙ go)
 
           pub room-here : i < 256
           room-here = room-more was-ready
@@ -150,14 +159,14 @@ module _ {table schedule comms log ends queues names′ : List ℕ} {actors : Li
               let records : recordsOf (set actors a (s .actor)) ≡ upd eqb (recordsOf actors) a (local (actionOf table a) x (see here a (looks x)) (recordOf r)) =
               records-set actors a (s .actor) in-actors
               ∙ ap (upd eqb (recordsOf actors) a)
-              (T .took .record-next
+              (T .took go .record-next
               ∙ ap (λ (found : Seen). local (actionOf table a) x found (recordOf r))
               (see-parts (seenFrom r (mailOf comms log ends) (queuesOf queues)) here a (looks x) refl refl)) in
-              λ j. record { actor = records j; mail = T .took .mail-next j; queue = T .took .queue-next j }
+              λ j. record { actor = records j; mail = T .took go .mail-next j; queue = T .took go .queue-next j }
 
           eight-next : EightCells (s .actor)
           eight-next =
-              ap (λ (q : Record). length (q .cells)) (T .took .record-next)
+              ap (λ (q : Record). length (q .cells)) (T .took go .record-next)
               ∙ cellsAfter-length (actionOf table a) x (see (seenFrom r (mailOf comms log ends) (queuesOf queues)) a (looks x)) (r .cells)
               ∙ P .eight a
 

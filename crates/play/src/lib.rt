@@ -3,6 +3,7 @@ ghost use Prim.Native.Nat.{_<_};
 ghost use Rattle.play.specs.Parts.{Fresh, PlayedRight};
 use answers::Stop;
 use state::Actor;
+use state::NextStep;
 use table::bytes;
 
 // Where a schedule halts: at its end, or at an entry that is refused.
@@ -52,17 +53,26 @@ pub fn play(
             };
         }
         let s = step::step(table, a, r, comms, log, ends, queues);
-        let ready = s.ready;
-        if ready {
-            let next = s.actor;
-            names[i] = (32 * a + k) as u8;
-            actors[a] = next;
-            i += 1;
-        } else {
-            return Played {
-                halt: Halt::At(Stop::Waiting(i as u32)),
-                actors,
-            };
+        let next = s.next;
+        match next {
+            NextStep::Taken => {
+                let after = s.actor;
+                names[i] = (32 * a + k) as u8;
+                actors[a] = after;
+                i += 1;
+            }
+            NextStep::Waits => {
+                return Played {
+                    halt: Halt::At(Stop::Waiting(i as u32)),
+                    actors,
+                };
+            }
+            NextStep::Over => {
+                return Played {
+                    halt: Halt::At(Stop::Over(i as u32)),
+                    actors,
+                };
+            }
         }
     }
     Played {

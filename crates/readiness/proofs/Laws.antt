@@ -2,7 +2,7 @@
 -- Assumes nothing.
 use mathlib.Core.Path.{_≡_, refl, _∙_, ap, ap₂, sym}
 use mathlib.Core.Bool.{Bool, true, false, not, _&&_, _||_}
-use mathlib.Core.List.{List, []}
+use mathlib.Core.List.{List}
 use Prim.Native.Nat.{ℕ, suc, _+_, _-_, _*_, _^_, _<_, _≤_}
 use native.Mathlib.Numerals.{add-one}
 use native.Mathlib.Omega.{arith}
@@ -14,13 +14,14 @@ use lib.Count.{ones}
 use Rattle.table.specs.declared.Action.{Action}
 use Rattle.table.specs.Format.{actorsOf, countOf}
 use Rattle.model.specs.Site.{Site}
-use Rattle.model.specs.Views.{looks, waits}
+use Rattle.model.specs.Views.{looks, waits, runsOver}
 use Rattle.model.specs.Local.{Seen, isSeen}
-use Rattle.model.specs.Step.{passes, ready}
+use Rattle.model.specs.Step.{NextStep, isTaken, stepOf, nextStep, ready}
 use Rattle.model.specs.Ready.{bit, maskOf, all, endingOf, readyMask, readyCount, readyAnswer}
+use Rattle.model.proofs.NextSteps.{judged}
 use Rattle.model.proofs.ReadyMask.{mask-small, mask-right}
 use Rattle.state.specs.State.{mailOf, queuesOf, freshActor, nextOf, seenFrom}
-use Rattle.readiness.specs.Parts.{siteWith, looksReady, everyoneFinished}
+use Rattle.readiness.specs.Parts.{siteWith, stepFrom, looksReady, everyoneFinished}
 use Rattle.answers.specs.Answers.{endingAs, readinessOf}
 use Rattle.state.specs.declared.Actor.{Actor}
 use Rattle.answers.specs.declared.Ending.the-variants as case
@@ -33,29 +34,30 @@ module _ (table : List ℕ) (a : ℕ) (r : Actor) (comms queues : List ℕ) wher
   pub looks-finished : countOf table a ≤ r .position → (log ends : List ℕ) → false ≡ looksReady table a r comms queues log ends
   looks-finished h log ends = rw (le-ltb (r .position) (countOf table a) h)
 
-  pub looks-by : (x : Action) → nextOf table a r ≡ x → r .position < countOf table a → (b : Bool)
-      → ((log ends : List ℕ) → b ≡ passes table (seenFrom r (mailOf comms log ends) (queuesOf queues)) a x)
-      → (log ends : List ℕ) → b ≡ looksReady table a r comms queues log ends
-  looks-by x e h b seen log ends =
-      rw (lt-ltb (r .position) (countOf table a) h)
-      (seen log ends ∙ ap (passes table (seenFrom r (mailOf comms log ends) (queuesOf queues)) a) (sym e))
+  pub looks-by : r .position < countOf table a → (t : NextStep) → ((log ends : List ℕ) → t ≡ stepFrom table a r comms queues log ends)
+      → (log ends : List ℕ) → isTaken t ≡ looksReady table a r comms queues log ends
+  looks-by h t next log ends = rw (lt-ltb (r .position) (countOf table a) h) (ap isTaken (next log ends))
 
--- the ports' logs play no part
-pub looks-alone : (table : List ℕ) (a : ℕ) (r : Actor) (comms queues log ends : List ℕ)
-    → looksReady table a r comms queues log ends ≡ looksReady table a r comms queues [] []
-looks-alone table a r comms queues log ends =
-    ap (λ (s : Seen). ltb (r .position) (countOf table a) && (not (waits (nextOf table a r)) || isSeen s))
-    (see-parts (seenFrom r (mailOf comms log ends) (queuesOf queues)) (seenFrom r (mailOf comms [] []) (queuesOf queues)) a
-    (looks (nextOf table a r)) refl refl)
+  -- the step of the action x is that of the next action, which x is
+  pub steps-by : (x : Action) → nextOf table a r ≡ x → (t : NextStep)
+      → ((log ends : List ℕ) → t ≡ stepOf table (seenFrom r (mailOf comms log ends) (queuesOf queues)) a x)
+      → (log ends : List ℕ) → t ≡ stepFrom table a r comms queues log ends
+  steps-by x e t next log ends = next log ends ∙ ap (stepOf table (seenFrom r (mailOf comms log ends) (queuesOf queues)) a) (sym e)
+
+-- what an actor's next step is, by its record: the ports' logs play no part
+pub step-looks : (table : List ℕ) (actors : List Actor) (comms queues log ends log′ ends′ : List ℕ) (a : ℕ)
+    → nextStep table (siteWith actors comms queues log ends) a ≡ stepFrom table a (getD actors a freshActor) comms queues log′ ends′
+step-looks table actors comms queues log ends log′ ends′ a =
+    let r : Actor = getD actors a freshActor in
+    ap (λ (s : Seen). judged (runsOver (nextOf table a r) (r .cells)) (not (waits (nextOf table a r)) || isSeen s))
+    (see-parts (siteWith actors comms queues log ends) (seenFrom r (mailOf comms log′ ends′) (queuesOf queues)) a (looks (nextOf table a r)) refl refl)
 
 pub ready-looks : (table : List ℕ) (actors : List Actor) (comms queues log ends : List ℕ) (a : ℕ) → a < actorsOf table
     → ready table (siteWith actors comms queues log ends) a ≡ looksReady table a (getD actors a freshActor) comms queues log ends
 unfolding ready
 ready-looks table actors comms queues log ends a h =
     rw (lt-ltb a (actorsOf table) h)
-    (ap (λ (s : Seen). ltb (getD actors a freshActor .position) (countOf table a) && (not (waits (nextOf table a (getD actors a freshActor))) || isSeen s))
-    (see-parts (siteWith actors comms queues log ends) (seenFrom (getD actors a freshActor) (mailOf comms log ends) (queuesOf queues)) a
-    (looks (nextOf table a (getD actors a freshActor))) refl refl))
+    (ap (λ (t : NextStep). ltb (getD actors a freshActor .position) (countOf table a) && isTaken t) (step-looks table actors comms queues log ends log ends a))
 
 -- ---- the mask
 

@@ -1,15 +1,17 @@
 // The ready answer of a state: the mask, how many actors are ready, and the ending.
 ghost use mathlib.Core.Path.{_≡_};
-ghost use Prim.Native.Nat.{ℕ, _+_, _≤_};
+ghost use Prim.Native.Nat.{ℕ, _+_, _<_, _≤_};
 ghost use mathlib.Core.List.{List};
 ghost use lib.ListN.{length};
-ghost use Rattle.table.specs.Format.{actorsOf};
+ghost use Rattle.table.specs.Format.{actorsOf, countOf};
 ghost use Rattle.model.specs.Ready.{bit as asBit, readyMask, readyAnswer};
-ghost use Rattle.readiness.specs.Parts.{Answerable, Looked, looksReady, everyoneFinished, siteWith};
+ghost use Rattle.readiness.specs.Parts.{Answerable, Looked, stepFrom, looksReady, everyoneFinished, siteWith};
+ghost use Rattle.state.specs.State.{stepAs};
 ghost use Rattle.answers.specs.Answers.{readinessOf};
 use answers::Ending;
 use answers::Readiness;
 use state::Actor;
+use state::NextStep;
 use table::Action;
 
 // The number of actors that are ready is the number of ones in their mask.
@@ -64,9 +66,9 @@ fn ready_mask(
     m
 }
 
-// Whether an actor is ready: not finished, and it need not wait.
-pub fn is_ready(table: &[u8], a: usize, r: Actor, comms: &[u64; 256], queues: &[u8; 72]) -> bool
-    requires { ⌜ Looked (now table) a (now comms) (now queues) ⌝ }
+// Whether an actor is ready: not finished, and its next step is taken.
+fn is_ready(table: &[u8], a: usize, r: Actor, comms: &[u64; 256], queues: &[u8; 72]) -> bool
+    requires { ⌜ Looked (now table) a r (now comms) (now queues) ⌝ }
     ensures { λ b. ⌜ ((log ends : List ℕ) → b
         ≡ looksReady (now (table .entry)) a r (now (comms .entry)) (now (queues .entry)) log ends) ⌝ }
 {
@@ -74,25 +76,46 @@ pub fn is_ready(table: &[u8], a: usize, r: Actor, comms: &[u64; 256], queues: &[
     if table::access::actions(table, a) <= k {
         return false;
     }
+    let next = next_step(table, a, r, comms, queues);
+    match next {
+        NextStep::Taken => true,
+        NextStep::Waits => false,
+        NextStep::Over => false,
+    }
+}
+
+// What the next step of an actor is that is not finished.
+pub fn next_step(
+    table: &[u8],
+    a: usize,
+    r: Actor,
+    comms: &[u64; 256],
+    queues: &[u8; 72],
+) -> NextStep
+    requires { ⌜ Looked (now table) a r (now comms) (now queues) × (r .position < countOf (now table) a) ⌝ }
+    ensures { λ s. ⌜ ((log ends : List ℕ) → stepAs s
+        ≡ stepFrom (now (table .entry)) a r (now (comms .entry)) (now (queues .entry)) log ends) ⌝ }
+{
+    let k = r.position;
     let x = table::within::action(table, a, k);
     match x {
-        Action::Set { cell: _, value: _ } => true,
-        Action::Add { cell: _, other: _ } => true,
-        Action::Lesser { cell: _, other: _ } => true,
+        Action::Set { cell: _, value: _ } => NextStep::Taken,
+        Action::Add { cell, other } => r.adding(cell, other),
+        Action::Lesser { cell: _, other: _ } => NextStep::Taken,
         Action::Send {
             mailbox: _,
             cell: _,
-        } => true,
+        } => NextStep::Taken,
         Action::Receive {
             mailbox: _,
             cell: _,
-        } => true,
-        Action::TestAny { result: _, list: _ } => true,
-        Action::WaitAny { result: _, list } => look::is_seen(look::communications(comms, a, list)),
-        Action::Lock { mutex: _ } => true,
-        Action::Unlock { mutex: _ } => true,
-        Action::MutexTest { result: _, list: _ } => true,
-        Action::MutexWait { result: _, list } => look::is_seen(look::mutexes(queues, a, list)),
+        } => NextStep::Taken,
+        Action::TestAny { result: _, list: _ } => NextStep::Taken,
+        Action::WaitAny { result: _, list } => look::awaited(look::communications(comms, a, list)),
+        Action::Lock { mutex: _ } => NextStep::Taken,
+        Action::Unlock { mutex: _ } => NextStep::Taken,
+        Action::MutexTest { result: _, list: _ } => NextStep::Taken,
+        Action::MutexWait { result: _, list } => look::awaited(look::mutexes(queues, a, list)),
     }
 }
 

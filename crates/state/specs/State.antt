@@ -10,8 +10,11 @@ use Rattle.table.specs.declared.Action.{Action}
 use Rattle.table.specs.Decode.{actionOf}
 use Rattle.trace.specs.Machine.{Name}
 use Rattle.model.specs.Site.{Actor as Record, Side, sends, receives, Port, Comm, unposted, pending, done, Mail, Site}
+use Rattle.model.specs.Step as Step
 use Rattle.names.specs.InByte.{nameOf}
 use Rattle.state.specs.declared.Actor.{Actor}
+use Rattle.state.specs.declared.NextStep.{NextStep}
+use Rattle.state.specs.declared.NextStep.the-variants as case
 
 -- a communication in one number: 0 unposted; 1 + 1024 · value pending; 2 + 4 · partner + 1024 · value done
 abbrev pub commOf : ℕ → Comm
@@ -106,3 +109,9 @@ seenFrom r mail queue = record { actor = λ a. recordOf r; mail = mail; queue = 
 -- the actor's next action
 abbrev pub nextOf : List ℕ → ℕ → Actor → Action
 nextOf table a r = actionOf table a (r .position)
+
+-- what the actor's next step is
+abbrev pub stepAs : NextStep → Step.NextStep
+stepAs case.Taken = Step.taken
+stepAs case.Waits = Step.waiting
+stepAs case.Over = Step.over

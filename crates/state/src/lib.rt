@@ -1,9 +1,12 @@
-// The state in arrays: an actor's record and its local steps. `specs/State` says which site of the model the arrays hold.
+// The state in arrays: an actor's record and its local steps, and what its next step is. `specs/State` says which site of the model the arrays hold.
 ghost use mathlib.Core.Path.{_≡_};
 ghost use mathlib.Core.Bool.{cond};
-ghost use Prim.Native.Nat.{_+_, _<_, _%_, _^_, min};
+ghost use Prim.Native.Nat.{_+_, _<_, _≤_, min};
+ghost use lib.Dec.{ltb};
 ghost use lib.ListN.{length, getD, set};
-ghost use Rattle.state.specs.State.{freshActor};
+ghost use Rattle.model.specs.Views.{largest};
+ghost use Rattle.model.specs.Step.{taken, over};
+ghost use Rattle.state.specs.State.{freshActor, stepAs};
 
 // An actor's record: the number of its next action, and its eight cells.
 pub struct Actor {
@@ -37,14 +40,35 @@ impl Actor {
         self
     }
 
-    // Add: the sum modulo 2^32.
-    pub fn add(mut self, cell: usize, other: usize) -> Self
+    // Whether the sum of an Add would pass the largest number that a cell holds.
+    pub fn runs_over(self, cell: usize, other: usize) -> bool
         requires { ⌜ (length (self .cells) ≡ 8) × (cell < 8) × (other < 8) ⌝ }
-        ensures { λ r. ⌜ (r .position ≡ self .position) × (r .cells ≡ set (self .cells) cell ((getD (self .cells) cell 0 + getD (self .cells) other 0) % 2 ^ 32)) ⌝ }
+        ensures { λ b. ⌜ b ≡ ltb largest (getD (self .cells) cell 0 + getD (self .cells) other 0) ⌝ }
     {
         let x = self.cells[cell];
         let y = self.cells[other];
-        self = self.put(cell, std::num::wrapping_add_u32(x, y));
+        passes(x, y)
+    }
+
+    // What an Add is as the next step.
+    pub fn adding(self, cell: usize, other: usize) -> NextStep
+        requires { ⌜ (length (self .cells) ≡ 8) × (cell < 8) × (other < 8) ⌝ }
+        ensures { λ s. ⌜ stepAs s ≡ cond (ltb largest (getD (self .cells) cell 0 + getD (self .cells) other 0)) over taken ⌝ }
+    {
+        if self.runs_over(cell, other) {
+            return NextStep::Over;
+        }
+        NextStep::Taken
+    }
+
+    // Add: the sum, which must not run over.
+    pub fn add(mut self, cell: usize, other: usize) -> Self
+        requires { ⌜ (length (self .cells) ≡ 8) × (cell < 8) × (other < 8) × (getD (self .cells) cell 0 + getD (self .cells) other 0 ≤ largest) ⌝ }
+        ensures { λ r. ⌜ (r .position ≡ self .position) × (r .cells ≡ set (self .cells) cell (getD (self .cells) cell 0 + getD (self .cells) other 0)) ⌝ }
+    {
+        let x = self.cells[cell];
+        let y = self.cells[other];
+        self = self.put(cell, x + y);
         self
     }
 
@@ -69,6 +93,13 @@ impl Actor {
     }
 }
 
+// What an actor's next step is: it is taken, it waits for what it looks at, or it is an Add that would run over.
+pub enum NextStep {
+    Taken,
+    Waits,
+    Over,
+}
+
 // The first of two numbers if a test holds, otherwise the second.
 fn chosen(first: bool, x: u32, y: u32) -> u32
     ensures { λ r. ⌜ r ≡ cond first x y ⌝ }
@@ -86,4 +117,11 @@ fn smaller(x: u32, y: u32) -> u32
         return x;
     }
     y
+}
+
+// Whether a sum passes the largest number that a cell holds.
+fn passes(x: u32, y: u32) -> bool
+    ensures { λ r. ⌜ r ≡ ltb largest (x + y) ⌝ }
+{
+    4294967295 < x as u64 + y as u64
 }

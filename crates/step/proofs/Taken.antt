@@ -18,10 +18,10 @@ use Rattle.model.specs.Views.{Post, silent, mails, posts, looks, sent, listed, 
 use Rattle.model.specs.Mail.{mailing, meet}
 use Rattle.model.specs.Mutex.{queueing}
 use Rattle.model.specs.Local.{Seen, unseen, seen, first, see, pickUpSeen, cellsAfter}
-use Rattle.model.specs.Step.{passes}
+use Rattle.model.specs.Step.{taken, stepOf}
 use Rattle.names.specs.InByte.{nameOf}
-use Rattle.state.specs.State.{tailIn, mailOf, queuesOf, MailRoom, QueueRoom, nextOf, seenFrom}
-use Rattle.step.specs.Parts.{Steppable, StepTaken, Picks, SmallPlace}
+use Rattle.state.specs.State.{tailIn, mailOf, queuesOf, MailRoom, QueueRoom, nextOf, seenFrom, stepAs}
+use Rattle.step.specs.Parts.{Steppable, StepTaken, After, Picks, SmallPlace}
 use Rattle.state.specs.declared.Actor.{Actor}
 use Rattle.step.specs.declared.Stepped.{Stepped}
 use Rattle.names.proofs.InByte.{name-byte}
@@ -78,17 +78,21 @@ module _ {table : List ℕ} {a : ℕ} {r : Actor} {comms log ends queues : List 
       has-picks table a (first test value 1 (listed l))
       (listed-has test value (λ place n. n < countOf table a) l (L .most) (λ i h. omega (arith, L .right i h .0, S .unfinished)))
 
+  -- a step that is taken has room to post
+  pub room-to-post : (x : Action) → nextOf table a r ≡ x → stepOf table (seenFrom r (mailOf comms log ends) (queuesOf queues)) a x ≡ taken
+      → (n : ℕ) → tailIn ends n < 256
+  room-to-post x e t = S .tail-room (ap (stepOf table (seenFrom r (mailOf comms log ends) (queuesOf queues)) a) e ∙ t)
+
   -- a step that posts nothing leaves the arrays as they are
   pub quiet : (x : Action) (s : Stepped) → posts x ≡ silent
-      → s .ready ≡ passes table (seenFrom r (mailOf comms log ends) (queuesOf queues)) a x
-      → s .actor .position ≡ r .position + 1
-      → s .actor .cells ≡ cellsAfter (actionOf table a) x (see (seenFrom r (mailOf comms log ends) (queuesOf queues)) a (looks x)) (r .cells)
+      → stepAs (s .next) ≡ stepOf table (seenFrom r (mailOf comms log ends) (queuesOf queues)) a x
+      → After s (r .position + 1) (cellsAfter (actionOf table a) x (see (seenFrom r (mailOf comms log ends) (queuesOf queues)) a (looks x)) (r .cells))
       → StepTaken table a x r comms log ends queues comms log ends queues s
-  quiet x s none ready position cells =
+  quiet x s none next after =
       record {
-        ready-right = ready;
-        took = record {
-          record-next = record-after (actionOf table a) x (see (seenFrom r (mailOf comms log ends) (queuesOf queues)) a (looks x)) r (s .actor) position cells;
+        next-right = next;
+        took = λ t. record {
+          record-next = record-after (actionOf table a) x (see (seenFrom r (mailOf comms log ends) (queuesOf queues)) a (looks x)) r (s .actor) (after t .0) (after t .1);
           mail-next = sym (ap (λ (p : Post). mailing p (name a (r .position)) (sent x (r .cells)) (mailOf comms log ends)) none);
           queue-next = sym (ap (λ (p : Post). queueing p a (queuesOf queues)) none);
         };
@@ -103,17 +107,16 @@ module _ {table : List ℕ} {a : ℕ} {r : Actor} {comms log ends queues : List 
 
   -- a step that posts to a mailbox changes the mail alone
   pub posted : (x : Action) (s : Stepped) (port : Port) {comms′ log′ ends′ : List ℕ} (v : ℕ) → posts x ≡ mails port → sent x (r .cells) ≡ v
-      → s .ready ≡ passes table (seenFrom r (mailOf comms log ends) (queuesOf queues)) a x
+      → stepAs (s .next) ≡ stepOf table (seenFrom r (mailOf comms log ends) (queuesOf queues)) a x
       → mailOf comms′ log′ ends′ ≡ meet port (name a (r .position)) v (mailOf comms log ends)
       → MailRoom comms′ log′ ends′ → ((n : ℕ) → tailIn ends′ n ≤ tailIn ends n + 1)
-      → s .actor .position ≡ r .position + 1
-      → s .actor .cells ≡ cellsAfter (actionOf table a) x (see (seenFrom r (mailOf comms log ends) (queuesOf queues)) a (looks x)) (r .cells)
+      → After s (r .position + 1) (cellsAfter (actionOf table a) x (see (seenFrom r (mailOf comms log ends) (queuesOf queues)) a (looks x)) (r .cells))
       → StepTaken table a x r comms log ends queues comms′ log′ ends′ queues s
-  posted x s port {comms′} {log′} {ends′} v mailed carries ready mail room grown position cells =
+  posted x s port {comms′} {log′} {ends′} v mailed carries next mail room grown after =
       record {
-        ready-right = ready;
-        took = record {
-          record-next = record-after (actionOf table a) x (see (seenFrom r (mailOf comms log ends) (queuesOf queues)) a (looks x)) r (s .actor) position cells;
+        next-right = next;
+        took = λ t. record {
+          record-next = record-after (actionOf table a) x (see (seenFrom r (mailOf comms log ends) (queuesOf queues)) a (looks x)) r (s .actor) (after t .0) (after t .1);
           mail-next = mail ∙ sym (ap₂ (λ (p : Post) (w : ℕ). mailing p (name a (r .position)) w (mailOf comms log ends)) mailed carries);
           queue-next = sym (ap (λ (p : Post). queueing p a (queuesOf queues)) mailed);
         };
@@ -124,18 +127,17 @@ module _ {table : List ℕ} {a : ℕ} {r : Actor} {comms log ends queues : List 
 
   -- a step that joins or leaves a mutex's queue changes the queues alone
   pub queued : (x : Action) (s : Stepped) (p : Post) {queues′ : List ℕ} → posts x ≡ p
-      → s .ready ≡ passes table (seenFrom r (mailOf comms log ends) (queuesOf queues)) a x
+      → stepAs (s .next) ≡ stepOf table (seenFrom r (mailOf comms log ends) (queuesOf queues)) a x
       → ((me : Name) (v : ℕ) (mail : Mail) → mailing p me v mail ≡ mail)
       → queuesOf queues′ ≡ queueing p a (queuesOf queues)
       → QueueRoom queues′
-      → s .actor .position ≡ r .position + 1
-      → s .actor .cells ≡ cellsAfter (actionOf table a) x (see (seenFrom r (mailOf comms log ends) (queuesOf queues)) a (looks x)) (r .cells)
+      → After s (r .position + 1) (cellsAfter (actionOf table a) x (see (seenFrom r (mailOf comms log ends) (queuesOf queues)) a (looks x)) (r .cells))
       → StepTaken table a x r comms log ends queues comms log ends queues′ s
-  queued x s p {queues′} post ready unmailed changed room position cells =
+  queued x s p {queues′} post next unmailed changed room after =
       record {
-        ready-right = ready;
-        took = record {
-          record-next = record-after (actionOf table a) x (see (seenFrom r (mailOf comms log ends) (queuesOf queues)) a (looks x)) r (s .actor) position cells;
+        next-right = next;
+        took = λ t. record {
+          record-next = record-after (actionOf table a) x (see (seenFrom r (mailOf comms log ends) (queuesOf queues)) a (looks x)) r (s .actor) (after t .0) (after t .1);
           mail-next =
               sym
               (ap (λ (q : Post). mailing q (name a (r .position)) (sent x (r .cells)) (mailOf comms log ends)) post

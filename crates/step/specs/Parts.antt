@@ -2,20 +2,21 @@
 -- Assumes nothing: these are definitions.
 use Prim.Native.Nat.{ℕ, _+_, _<_, _≤_}
 use mathlib.Core.Path.{_≡_}
-use mathlib.Core.Bool.{false}
+use mathlib.Core.Bool.{cond}
 use mathlib.Core.List.{List}
-use lib.ListN.{length}
+use lib.Dec.{ltb}
+use lib.ListN.{length, getD, set}
 use Rattle.table.specs.declared.Action.{Action}
 use Rattle.table.specs.Format.{actorsOf, countOf}
 use Rattle.table.specs.Decode.{actionOf}
 use Rattle.table.specs.Promise.{WellFormed}
 use Rattle.model.specs.Site.{Mail, name}
-use Rattle.model.specs.Views.{looks, posts, sent, waits}
+use Rattle.model.specs.Views.{looks, posts, sent, largest}
 use Rattle.model.specs.Mutex.{queueing, join}
 use Rattle.model.specs.Mail.{mailing}
 use Rattle.model.specs.Local as Local
-use Rattle.model.specs.Step.{passes}
-use Rattle.state.specs.State.{recordOf, tailIn, mailOf, queuesOf, MailRoom, QueueRoom, EightCells, seenFrom, nextOf}
+use Rattle.model.specs.Step.{taken, over, stepOf}
+use Rattle.state.specs.State.{recordOf, tailIn, mailOf, queuesOf, MailRoom, QueueRoom, EightCells, seenFrom, nextOf, stepAs}
 use Rattle.state.specs.declared.Actor.{Actor}
 use Rattle.step.specs.declared.Stepped.{Stepped}
 
@@ -27,9 +28,18 @@ pub record Steppable (table : List ℕ) (a : ℕ) (r : Actor) (comms log ends qu
   pub eight : EightCells r
   pub mail-room : MailRoom comms log ends
   pub queue-room : QueueRoom queues
-  -- a step that need not wait has room to post
-  pub tail-room : waits (nextOf table a r) ≡ false → (n : ℕ) → tailIn ends n < 256
+  -- a step that is taken has room to post
+  pub tail-room : stepOf table (seenFrom r (mailOf comms log ends) (queuesOf queues)) a (nextOf table a r) ≡ taken → (n : ℕ) → tailIn ends n < 256
   pub join-room : (m : ℕ) → length (join (queuesOf queues m) a) ≤ 8
+
+-- what a step with the record `next` leaves where it is taken
+abbrev pub After : Stepped → (position : ℕ) (cells : List ℕ) → Type 0
+After s position cells = stepAs (s .next) ≡ taken → (s .actor .position ≡ position) × (s .actor .cells ≡ cells)
+
+-- an Add of these cells: it runs over; or the record has the sum
+pub record Added (r : Actor) (cell other : ℕ) (s : Stepped) : Type 0 where
+  pub next-right : stepAs (s .next) ≡ cond (ltb largest (getD (r .cells) cell 0 + getD (r .cells) other 0)) over taken
+  pub after : After s (r .position + 1) (set (r .cells) cell (getD (r .cells) cell 0 + getD (r .cells) other 0))
 
 -- a number that a look found is that of an action
 abbrev pub Picks : List ℕ → ℕ → Local.Seen → Type 0
@@ -41,16 +51,16 @@ abbrev pub SmallPlace : Local.Seen → Type 0
 SmallPlace Local.unseen = Unit {0}
 SmallPlace (Local.seen place number value) = place ≤ 4
 
--- a step that was ready, of the action x, was taken as the model takes it
+-- a step of the action x was taken as the model takes it
 pub record Took (table : List ℕ) (a : ℕ) (x : Action) (r : Actor) (mail : Mail) (queue : ℕ → List ℕ) (mail′ : Mail) (queue′ : ℕ → List ℕ) (next : Actor) : Type 0 where
   pub record-next : recordOf next ≡ Local.local (actionOf table a) x (Local.see (seenFrom r mail queue) a (looks x)) (recordOf r)
   pub mail-next : mail′ ≡ mailing (posts x) (name a (r .position)) (sent x (r .cells)) mail
   pub queue-next : queue′ ≡ queueing (posts x) a queue
 
--- what a step of the action x leaves: whether it was ready; its record, the mail and the queues; and room for the next step
+-- what a step of the action x leaves: what it was; where it was taken, its record, the mail and the queues; and room for the next step
 pub record StepTaken (table : List ℕ) (a : ℕ) (x : Action) (r : Actor) (comms log ends queues comms′ log′ ends′ queues′ : List ℕ) (s : Stepped) : Type 0 where
-  pub ready-right : s .ready ≡ passes table (seenFrom r (mailOf comms log ends) (queuesOf queues)) a x
-  pub took : Took table a x r (mailOf comms log ends) (queuesOf queues) (mailOf comms′ log′ ends′) (queuesOf queues′) (s .actor)
+  pub next-right : stepAs (s .next) ≡ stepOf table (seenFrom r (mailOf comms log ends) (queuesOf queues)) a x
+  pub took : stepAs (s .next) ≡ taken → Took table a x r (mailOf comms log ends) (queuesOf queues) (mailOf comms′ log′ ends′) (queuesOf queues′) (s .actor)
   pub mail-room : MailRoom comms′ log′ ends′
   pub queue-room : QueueRoom queues′
   pub grown : (n : ℕ) → tailIn ends′ n ≤ tailIn ends n + 1

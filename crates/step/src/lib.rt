@@ -7,15 +7,16 @@ ghost use Rattle.table.specs.Decode.{actionOf};
 ghost use Rattle.table.specs.Promise.{WellFormed};
 ghost use Rattle.model.specs.Local.{pickUpSeen, placeSeen};
 ghost use Rattle.look.specs.Parts.{seenOf};
-ghost use Rattle.step.specs.Parts.{Steppable, StepTaken, Picks, SmallPlace};
+ghost use Rattle.step.specs.Parts.{Steppable, StepTaken, Added, Picks, SmallPlace};
 ghost use Rattle.state.specs.State.{nextOf};
 use look::Seen;
 use state::Actor;
+use state::NextStep;
 use table::Action;
 
-// What a step leaves of its actor's record, where the actor was ready.
+// What an actor's next step was, and its record after it where it was taken.
 pub struct Stepped {
-    pub ready: bool,
+    pub next: NextStep,
     pub actor: Actor,
 }
 
@@ -37,74 +38,88 @@ pub fn step(
     let x = table::within::action(table, a, k);
     match x {
         Action::Set { cell, value } => Stepped {
-            ready: true,
+            next: NextStep::Taken,
             actor: r.put(cell, value).next(),
         },
-        Action::Add { cell, other } => Stepped {
-            ready: true,
-            actor: r.add(cell, other).next(),
-        },
+        Action::Add { cell, other } => added(r, cell, other),
         Action::Lesser { cell, other } => Stepped {
-            ready: true,
+            next: NextStep::Taken,
             actor: r.lesser(cell, other).next(),
         },
         Action::Send { mailbox, cell } => {
             let value = r.cells[cell];
             mail::send(comms, log, ends, 32 * a + k, mailbox, value);
             Stepped {
-                ready: true,
+                next: NextStep::Taken,
                 actor: r.next(),
             }
         }
         Action::Receive { mailbox, cell: _ } => {
             mail::receive(comms, log, ends, 32 * a + k, mailbox);
             Stepped {
-                ready: true,
+                next: NextStep::Taken,
                 actor: r.next(),
             }
         }
         Action::TestAny { result, list } => {
             let seen = look::communications(comms, a, list);
             Stepped {
-                ready: true,
+                next: NextStep::Taken,
                 actor: told(picked(table, a, r, seen), result, seen),
             }
         }
         Action::WaitAny { result, list } => {
             let seen = look::communications(comms, a, list);
             Stepped {
-                ready: look::is_seen(seen),
+                next: look::awaited(seen),
                 actor: told(picked(table, a, r, seen), result, seen),
             }
         }
         Action::Lock { mutex } => {
             mutex::join(queues, mutex, a);
             Stepped {
-                ready: true,
+                next: NextStep::Taken,
                 actor: r.next(),
             }
         }
         Action::Unlock { mutex } => {
             mutex::leave(queues, mutex, a);
             Stepped {
-                ready: true,
+                next: NextStep::Taken,
                 actor: r.next(),
             }
         }
         Action::MutexTest { result, list } => {
             let seen = look::mutexes(queues, a, list);
             Stepped {
-                ready: true,
+                next: NextStep::Taken,
                 actor: told(r, result, seen),
             }
         }
         Action::MutexWait { result, list } => {
             let seen = look::mutexes(queues, a, list);
             Stepped {
-                ready: look::is_seen(seen),
+                next: look::awaited(seen),
                 actor: told(r, result, seen),
             }
         }
+    }
+}
+
+// An Add: it runs over, or the next action follows its sum.
+fn added(r: Actor, cell: usize, other: usize) -> Stepped
+    requires { ⌜ (length (r .cells) ≡ 8) × (cell < 8) × (other < 8) × (r .position < 32) ⌝ }
+    ensures { λ s. ⌜ Added r cell other s ⌝ }
+{
+    if r.runs_over(cell, other) {
+        return Stepped {
+            next: NextStep::Over,
+            actor: r,
+        };
+    }
+    Stepped {
+        next: NextStep::Taken,
+        actor: r.add(cell, other).next(),
     }
 }
 

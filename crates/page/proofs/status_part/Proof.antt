@@ -37,6 +37,15 @@ slice-aggregate-put-3 c = search needs
 put-requires-3 : tie.Need-put-requires-3
 put-requires-3 c κs = search needs
 
+enum-told-4 : tie.Need-enum-told-4
+enum-told-4 c = search needs
+
+slice-aggregate-put-4 : tie.Need-slice-aggregate-put-4
+slice-aggregate-put-4 c = search needs
+
+put-requires-4 : tie.Need-put-requires-4
+put-requires-4 c κs = search needs
+
 same-length : tie.Need-same-length
 same-length c = search needs
 
@@ -64,6 +73,15 @@ returns-3 c =
     let p = c .before .before .put3 in
     subst (λ (x : Status). Wrote (s .args .buf .now) (space ∷ left 8 (statusWord (statusAs x))) (p .last .1 .0) (p .result)) (sym (c .before .before .before .before .before .enum-told3 .given .1)) (p .ensures)
 
+same-length-4 : tie.Need-same-length-4
+same-length-4 c = search needs
+
+returns-4 : tie.Need-returns-4
+returns-4 c =
+    let s = c .before .before .before .before .before .before .before .before in
+    let p = c .before .before .put4 in
+    subst (λ (x : Status). Wrote (s .args .buf .now) (space ∷ left 8 (statusWord (statusAs x))) (p .last .1 .0) (p .result)) (sym (c .before .before .before .before .before .enum-told4 .given .1)) (p .ensures)
+
 pub status-part-spec : {M : Type 1} → statement M
 status-part-spec =
     tie.close
@@ -77,9 +95,14 @@ status-part-spec =
     enum-told-3
     slice-aggregate-put-3
     put-requires-3
+    enum-told-4
+    slice-aggregate-put-4
+    put-requires-4
     same-length
     returns
     same-length-2
     returns-2
     same-length-3
-    returns-3)
+    returns-3
+    same-length-4
+    returns-4)

@@ -38,17 +38,23 @@ array-index c =
     omega (arith, c .before .before .actors .ensures, c .loop-test .taken, c .before .before .before .before .before .pre .answerable .accepted .actors-most)
 
 -- the record taken out of the array, and the actor's line, in the model's words
+own-record : (c : tie.After-r Inv-loop μ-loop) → let s = c .before .before .before .before .before .before in let a = c .before .before .loop .a in
+    getD (s .args .t2) a (record { position = 0; cells = [] }) ≡ getD (s .args .t2) a freshActor
+own-record c =
+    let s = c .before .before .before .before .before .before in
+    getD-within (s .args .t2) (c .before .before .loop .a) _ _ (omega (arith, array-index (c .before), s .pre .answerable .actors-long))
+
 abbrev taken : tie.After-status-of Inv-loop μ-loop → Actor
 taken c = getD (c .before .before .before .before .before .before .before .args .t2) (c .before .before .before .loop .a) (record { position = 0; cells = [] })
 
 taken-same : (c : tie.After-status-of Inv-loop μ-loop) → taken c ≡ getD (c .before .before .before .before .before .before .before .args .t2) (c .before .before .before .loop .a) freshActor
-taken-same c = getD-within (c .before .before .before .before .before .before .before .args .t2) (c .before .before .before .loop .a) (record { position = 0; cells = [] }) freshActor (omega (arith, array-index (c .before .before), c .before .before .before .before .before .before .before .pre .answerable .actors-long))
+taken-same c = own-record (c .before)
 
 line-same : (c : tie.After-status-of Inv-loop μ-loop) → let s = c .before .before .before .before .before .before .before in let a = c .before .before .before .loop .a in
     line (actorText a (recordOf (taken c)) (statusAs (c .status-of .result))) ≡ lineFrom (s .args .table .now) (s .args .t2) (s .args .comms .now) (s .args .queues .now) a
 line-same c =
     let s = c .before .before .before .before .before .before .before in
-    line-from (s .args .table .now) (s .args .t2) (s .args .comms .now) (s .args .queues .now) (c .before .before .before .loop .a) (omega (arith, c .before .before .before .before .actors .ensures, c .before .before .loop-test .taken)) (taken c) (taken-same c) (statusAs (c .status-of .result)) (c .status-of .ensures)
+    line-from (s .args .table .now) (s .args .t2) (s .args .comms .now) (s .args .queues .now) (c .before .before .before .loop .a) (taken c) (taken-same c) (statusAs (c .status-of .result)) (c .status-of .ensures)
 
 mul-r : tie.Need-mul-r Inv-loop μ-loop
 mul-r c = omega (arith, array-index c)
@@ -60,7 +66,13 @@ status-of-requires : tie.Need-status-of-requires Inv-loop μ-loop
 status-of-requires c κs =
     let s = c .before .before .before .before .before .before in
     let p = s .pre .answerable in
-    record { accepted = p .accepted; actor = omega (arith, c .before .before .before .actors .ensures, c .before .loop-test .taken); comms-room = p .comms-room; queue-room = p .queue-room }
+    record {
+      accepted = p .accepted;
+      actor = omega (arith, c .before .before .before .actors .ensures, c .before .loop-test .taken);
+      eight = rw (own-record c) (p .eight (c .before .before .loop .a));
+      comms-room = p .comms-room;
+      queue-room = p .queue-room;
+    }
 
 sub-actor-line : tie.Need-sub-actor-line Inv-loop μ-loop
 sub-actor-line c = next-at (c .before .before .before .loop .inv) (c .before .before .loop-test .taken)

@@ -1,19 +1,24 @@
--- `play::play` meets its contract. The loop's invariant: the arrays hold the state that the first i entries have left, and all of them were ready.
+-- `play::play` meets its contract. The loop's invariant: the arrays hold the state that the first i entries have left, and all of them were taken.
 -- Assumes nothing.
-use mathlib.Core.Path.{_≡_, _∙_, ap, sym}
-use mathlib.Core.List.{[]}
-use Prim.Native.Nat.{ℕ, _-_}
+use mathlib.Core.Path.{_≡_, refl, _∙_, ap, sym}
+use mathlib.Core.List.{List, []}
+use Prim.Native.Nat.{ℕ, _-_, _<_}
 use native.Mathlib.Omega.{arith}
 use borrow.Author.Needs.{needs}
 use lib.ListN.{length, getD, replicate}
-use Rattle.play.proofs.Playing.{Playing}
+use Rattle.table.specs.Format.{actorsOf, countOf}
+use Rattle.model.specs.Step.{waiting, over}
 use Rattle.answers.specs.declared.Stop.{Stop}
-use Rattle.answers.specs.declared.Stop.the-variants.{Absent, Finished, Waiting}
-use Rattle.play.specs.declared.Halt.the-variants.{End, At}
-use Rattle.step.proofs.Taken.{position-small, actor-small}
-use Rattle.play.proofs.Next.{entries-so-far, entry-absent}
+use Rattle.answers.specs.declared.Stop.the-variants.{Absent, Finished, Waiting, Over}
+use Rattle.state.specs.State.{freshActor, stepAs}
+use Rattle.state.specs.declared.Actor.{Actor}
 use Rattle.state.proofs.Within.{getD-within}
-use Rattle.play.proofs.Entry.{refusal, finished-as, waiting-as, steppable-as, room-as, next-as}
+use Rattle.step.specs.Parts.{Steppable}
+use Rattle.step.proofs.Taken.{position-small, actor-small}
+use Rattle.play.specs.declared.Halt.the-variants.{End, At}
+use Rattle.play.proofs.Playing.{Playing}
+use Rattle.play.proofs.Next.{entries-so-far, entry-absent}
+use Rattle.play.proofs.Entry.{refusal, finished-as, untaken-as, steppable-as, room-as, next-as}
 use Rattle.play.proofs.Ends.{playing-start, checks-end, ended}
 use Rattle.play.proofs.play.Statement.{statement}
 use Rattle.play.proofs.play.Tie as tie
@@ -29,6 +34,49 @@ abbrev μ-loop : tie.MeasureT-loop
 -- a stop is not the end
 not-end : {stop : Stop} → At stop ≡ End → ⊥
 not-end e = let z : _≡_ {A = ℕ} 0 1 = cc in omega arith
+
+-- ---- the places: an entry whose actor the table has, and the turn of the loop that it is
+
+abbrev turn : tie.Else1 Inv-loop μ-loop → tie.At-loop Inv-loop μ-loop
+turn e = e .before .before .before .before
+
+abbrev tableAt : tie.Else1 Inv-loop μ-loop → List ℕ
+tableAt e = turn e .before .before .before .before .before .args .table .now
+
+abbrev actorAt : tie.Else1 Inv-loop μ-loop → ℕ
+actorAt e = e .before .wide .result
+
+abbrev recordAt : tie.Else1 Inv-loop μ-loop → Actor
+recordAt e = getD (turn e .loop .actors) (actorAt e) (record { position = 0; cells = [] })
+
+in-table : (e : tie.Else1 Inv-loop μ-loop) → actorAt e < actorsOf (tableAt e)
+in-table e = omega (arith, turn e .before .before .actors .ensures, e .if1 .left)
+
+in-actors : (e : tie.Else1 Inv-loop μ-loop) → actorAt e < length (turn e .loop .actors)
+in-actors e = omega (arith, turn e .loop .inv .actors-long, turn e .loop .inv .accepted-table .actors-most, in-table e)
+
+own-record : (e : tie.Else1 Inv-loop μ-loop) → recordAt e ≡ getD (turn e .loop .actors) (actorAt e) freshActor
+own-record e = getD-within (turn e .loop .actors) (actorAt e) _ _ (in-actors e)
+
+-- an entry whose actor is not finished
+abbrev found : tie.Else2 Inv-loop μ-loop → tie.Else1 Inv-loop μ-loop
+found e = e .before .before .before
+
+left : (e : tie.Else2 Inv-loop μ-loop) → recordAt (found e) .position < countOf (tableAt (found e)) (actorAt (found e))
+left e = omega (arith, e .before .actions .ensures, e .if2 .left)
+
+can-step : (e : tie.Else2 Inv-loop μ-loop) → let l = turn (found e) .loop in
+    Steppable (tableAt (found e)) (actorAt (found e)) (recordAt (found e)) (l .comms) (l .log) (l .ends) (l .queues)
+can-step e =
+    let f = found e in
+    steppable-as (turn f .loop .inv) (f .before .before .before .loop-test .taken) (actorAt f) (f .before .wide .ensures .0) (recordAt f) (own-record f)
+    (in-table f) (left e)
+
+-- after its step
+abbrev stepped : tie.After-step Inv-loop μ-loop → tie.Else2 Inv-loop μ-loop
+stepped s = s .before .before .before .before .before
+
+-- ---- the needs
 
 actors-requires : tie.Need-actors-requires Inv-loop μ-loop
 actors-requires c κs = search needs
@@ -52,76 +100,104 @@ cast-t22 c =
 
 returns : tie.Need-returns Inv-loop μ-loop
 returns c =
-    refusal (record { halt = At (Absent (c .before .before .before .before .loop .i)); actors = c .before .before .before .before .loop .actors }) not-end (entry-absent (c .before .before .before .before .loop .inv) (c .before .before .before .loop-test .taken) (omega (arith, c .before .wide .ensures .0, c .before .before .before .before .before .before .actors .ensures, c .if1 .taken)))
+    let l = c .before .before .before .before .loop in
+    refusal (record { halt = At (Absent (l .i)); actors = l .actors }) not-end
+    (entry-absent (l .inv) (c .before .before .before .loop-test .taken)
+    (omega (arith, c .before .wide .ensures .0, c .before .before .before .before .before .before .actors .ensures, c .if1 .taken)))
 
 mul-r : tie.Need-mul-r Inv-loop μ-loop
-mul-r c =
-    omega (arith, c .before .before .before .before .loop .inv .actors-long, c .before .before .before .before .loop .inv .accepted-table .actors-most, c .before .before .before .before .before .before .actors .ensures, c .if1 .left)
+mul-r c = omega (arith, turn c .loop .inv .actors-long, in-actors c)
 
 array-copy-out-r : tie.Need-array-copy-out-r Inv-loop μ-loop
-array-copy-out-r c =
-    omega (arith, c .before .before .before .before .loop .inv .actors-long, c .before .before .before .before .loop .inv .accepted-table .actors-most, c .before .before .before .before .before .before .actors .ensures, c .if1 .left)
+array-copy-out-r c = omega (arith, turn c .loop .inv .actors-long, in-actors c)
 
 actions-requires : tie.Need-actions-requires Inv-loop μ-loop
 actions-requires c κs = search needs
 
 cast-t29 : tie.Need-cast-t29 Inv-loop μ-loop
-cast-t29 c =
-    omega (arith, entries-so-far (c .before .before .before .before .before .before .before .loop .inv))
+cast-t29 c = omega (arith, entries-so-far (turn (c .before .before .before) .loop .inv))
 
 returns-2 : tie.Need-returns-2 Inv-loop μ-loop
 returns-2 c =
-    refusal (record { halt = At (Finished (c .before .before .before .before .before .before .before .loop .i)); actors = c .before .before .before .before .before .before .before .loop .actors }) not-end (finished-as (c .before .before .before .before .before .before .before .loop .inv) (c .before .before .before .before .before .before .loop-test .taken) (c .before .before .before .before .wide .result) (c .before .before .before .before .wide .ensures .0) (getD (c .before .before .before .before .before .before .before .loop .actors) (c .before .before .before .before .wide .result) (record { position = 0; cells = [] })) (getD-within (c .before .before .before .before .before .before .before .loop .actors) (c .before .before .before .before .wide .result) _ _ (omega (arith, c .before .before .before .before .before .before .before .loop .inv .actors-long, c .before .before .before .before .before .before .before .loop .inv .accepted-table .actors-most, c .before .before .before .before .before .before .before .before .before .actors .ensures, c .before .before .before .if1 .left))) (omega (arith, c .before .before .before .before .before .before .before .before .before .actors .ensures, c .before .before .before .if1 .left)) (omega (arith, c .before .actions .ensures, c .if2 .taken)))
+    let f = c .before .before .before in
+    refusal (record { halt = At (Finished (turn f .loop .i)); actors = turn f .loop .actors }) not-end
+    (finished-as (turn f .loop .inv) (f .before .before .before .loop-test .taken) (actorAt f) (f .before .wide .ensures .0) (recordAt f) (own-record f)
+    (in-table f) (omega (arith, c .before .actions .ensures, c .if2 .taken)))
 
 step-requires : tie.Need-step-requires Inv-loop μ-loop
-step-requires c κs =
-    steppable-as (c .before .before .before .before .before .before .before .before .before .before .before .loop .inv) (c .before .before .before .before .before .before .before .before .before .before .loop-test .taken) (c .before .before .before .before .before .before .before .before .wide .result) (c .before .before .before .before .before .before .before .before .wide .ensures .0) (getD (c .before .before .before .before .before .before .before .before .before .before .before .loop .actors) (c .before .before .before .before .before .before .before .before .wide .result) (record { position = 0; cells = [] })) (getD-within (c .before .before .before .before .before .before .before .before .before .before .before .loop .actors) (c .before .before .before .before .before .before .before .before .wide .result) _ _ (omega (arith, c .before .before .before .before .before .before .before .before .before .before .before .loop .inv .actors-long, c .before .before .before .before .before .before .before .before .before .before .before .loop .inv .accepted-table .actors-most, c .before .before .before .before .before .before .before .before .before .before .before .before .before .actors .ensures, c .before .before .before .before .before .before .before .if1 .left))) (omega (arith, c .before .before .before .before .before .before .before .before .before .before .before .before .before .actors .ensures, c .before .before .before .before .before .before .before .if1 .left)) (omega (arith, c .before .before .before .before .before .actions .ensures, c .before .before .before .before .if2 .left))
+step-requires c κs = can-step (c .before .before .before .before)
+
+enum-told : tie.Need-enum-told Inv-loop μ-loop
+enum-told c = search needs
 
 mul-names : tie.Need-mul-names Inv-loop μ-loop
-mul-names c =
-    let S = steppable-as (c .before .before .before .before .before .before .before .before .before .before .before .before .before .before .loop .inv) (c .before .before .before .before .before .before .before .before .before .before .before .before .before .loop-test .taken) (c .before .before .before .before .before .before .before .before .before .before .before .wide .result) (c .before .before .before .before .before .before .before .before .before .before .before .wide .ensures .0) (getD (c .before .before .before .before .before .before .before .before .before .before .before .before .before .before .loop .actors) (c .before .before .before .before .before .before .before .before .before .before .before .wide .result) (record { position = 0; cells = [] })) (getD-within (c .before .before .before .before .before .before .before .before .before .before .before .before .before .before .loop .actors) (c .before .before .before .before .before .before .before .before .before .before .before .wide .result) _ _ (omega (arith, c .before .before .before .before .before .before .before .before .before .before .before .before .before .before .loop .inv .actors-long, c .before .before .before .before .before .before .before .before .before .before .before .before .before .before .loop .inv .accepted-table .actors-most, c .before .before .before .before .before .before .before .before .before .before .before .before .before .before .before .before .actors .ensures, c .before .before .before .before .before .before .before .before .before .before .if1 .left))) (omega (arith, c .before .before .before .before .before .before .before .before .before .before .before .before .before .before .before .before .actors .ensures, c .before .before .before .before .before .before .before .before .before .before .if1 .left)) (omega (arith, c .before .before .before .before .before .before .before .before .actions .ensures, c .before .before .before .before .before .before .before .if2 .left)) in omega (arith, position-small S, actor-small S)
+mul-names c = let S = can-step (stepped (c .before .before .before)) in omega (arith, position-small S, actor-small S)
 
 add-names : tie.Need-add-names Inv-loop μ-loop
-add-names c =
-    let S = steppable-as (c .before .before .before .before .before .before .before .before .before .before .before .before .before .before .loop .inv) (c .before .before .before .before .before .before .before .before .before .before .before .before .before .loop-test .taken) (c .before .before .before .before .before .before .before .before .before .before .before .wide .result) (c .before .before .before .before .before .before .before .before .before .before .before .wide .ensures .0) (getD (c .before .before .before .before .before .before .before .before .before .before .before .before .before .before .loop .actors) (c .before .before .before .before .before .before .before .before .before .before .before .wide .result) (record { position = 0; cells = [] })) (getD-within (c .before .before .before .before .before .before .before .before .before .before .before .before .before .before .loop .actors) (c .before .before .before .before .before .before .before .before .before .before .before .wide .result) _ _ (omega (arith, c .before .before .before .before .before .before .before .before .before .before .before .before .before .before .loop .inv .actors-long, c .before .before .before .before .before .before .before .before .before .before .before .before .before .before .loop .inv .accepted-table .actors-most, c .before .before .before .before .before .before .before .before .before .before .before .before .before .before .before .before .actors .ensures, c .before .before .before .before .before .before .before .before .before .before .if1 .left))) (omega (arith, c .before .before .before .before .before .before .before .before .before .before .before .before .before .before .before .before .actors .ensures, c .before .before .before .before .before .before .before .before .before .before .if1 .left)) (omega (arith, c .before .before .before .before .before .before .before .before .actions .ensures, c .before .before .before .before .before .before .before .if2 .left)) in omega (arith, position-small S, actor-small S)
+add-names c = let S = can-step (stepped (c .before .before .before)) in omega (arith, position-small S, actor-small S)
 
 cast-names : tie.Need-cast-names Inv-loop μ-loop
-cast-names c =
-    let S = steppable-as (c .before .before .before .before .before .before .before .before .before .before .before .before .before .before .loop .inv) (c .before .before .before .before .before .before .before .before .before .before .before .before .before .loop-test .taken) (c .before .before .before .before .before .before .before .before .before .before .before .wide .result) (c .before .before .before .before .before .before .before .before .before .before .before .wide .ensures .0) (getD (c .before .before .before .before .before .before .before .before .before .before .before .before .before .before .loop .actors) (c .before .before .before .before .before .before .before .before .before .before .before .wide .result) (record { position = 0; cells = [] })) (getD-within (c .before .before .before .before .before .before .before .before .before .before .before .before .before .before .loop .actors) (c .before .before .before .before .before .before .before .before .before .before .before .wide .result) _ _ (omega (arith, c .before .before .before .before .before .before .before .before .before .before .before .before .before .before .loop .inv .actors-long, c .before .before .before .before .before .before .before .before .before .before .before .before .before .before .loop .inv .accepted-table .actors-most, c .before .before .before .before .before .before .before .before .before .before .before .before .before .before .before .before .actors .ensures, c .before .before .before .before .before .before .before .before .before .before .if1 .left))) (omega (arith, c .before .before .before .before .before .before .before .before .before .before .before .before .before .before .before .before .actors .ensures, c .before .before .before .before .before .before .before .before .before .before .if1 .left)) (omega (arith, c .before .before .before .before .before .before .before .before .actions .ensures, c .before .before .before .before .before .before .before .if2 .left)) in omega (arith, position-small S, actor-small S)
+cast-names c = let S = can-step (stepped (c .before .before .before)) in omega (arith, position-small S, actor-small S)
 
 element-write-names : tie.Need-element-write-names Inv-loop μ-loop
 element-write-names c =
-    let room = room-as (c .before .before .before .before .before .before .before .before .before .before .before .before .before .before .loop .inv) (c .before .before .before .before .before .before .before .before .before .before .before .before .before .loop-test .taken) (c .before .before .before .before .before .before .before .before .before .before .before .wide .result) (c .before .before .before .before .before .before .before .before .before .before .before .wide .ensures .0) (getD (c .before .before .before .before .before .before .before .before .before .before .before .before .before .before .loop .actors) (c .before .before .before .before .before .before .before .before .before .before .before .wide .result) (record { position = 0; cells = [] })) (getD-within (c .before .before .before .before .before .before .before .before .before .before .before .before .before .before .loop .actors) (c .before .before .before .before .before .before .before .before .before .before .before .wide .result) _ _ (omega (arith, c .before .before .before .before .before .before .before .before .before .before .before .before .before .before .loop .inv .actors-long, c .before .before .before .before .before .before .before .before .before .before .before .before .before .before .loop .inv .accepted-table .actors-most, c .before .before .before .before .before .before .before .before .before .before .before .before .before .before .before .before .actors .ensures, c .before .before .before .before .before .before .before .before .before .before .if1 .left))) (omega (arith, c .before .before .before .before .before .before .before .before .before .before .before .before .before .before .before .before .actors .ensures, c .before .before .before .before .before .before .before .before .before .before .if1 .left)) (omega (arith, c .before .before .before .before .before .before .before .before .actions .ensures, c .before .before .before .before .before .before .before .if2 .left)) (c .before .before .step .ensures) (c .before .if3 .taken) in omega (arith, c .before .before .before .before .before .before .before .before .before .before .before .before .before .before .loop .inv .names-long, room)
+    let s = c .before .before .before in
+    let f = found (stepped s) in
+    let room = room-as (turn f .loop .inv) (f .before .before .before .loop-test .taken) (actorAt f) (f .before .wide .ensures .0) (recordAt f) (own-record f)
+    (in-table f) (left (stepped s)) (s .step .ensures) (ap stepAs (c .before .enum-told .given .1)) in
+    omega (arith, turn f .loop .inv .names-long, room)
 
 mul-actors : tie.Need-mul-actors Inv-loop μ-loop
 mul-actors c =
-    omega (arith, c .before .before .before .before .before .before .before .before .before .before .before .before .before .before .loop .inv .actors-long, c .before .before .before .before .before .before .before .before .before .before .before .before .before .before .loop .inv .accepted-table .actors-most, c .before .before .before .before .before .before .before .before .before .before .before .before .before .before .before .before .actors .ensures, c .before .before .before .before .before .before .before .before .before .before .if1 .left)
+    let f = found (stepped (c .before .before .before)) in omega (arith, turn f .loop .inv .actors-long, in-actors f)
 
 array-set-from-actors : tie.Need-array-set-from-actors Inv-loop μ-loop
 array-set-from-actors c =
-    omega (arith, c .before .before .before .before .before .before .before .before .before .before .before .before .before .before .loop .inv .actors-long, c .before .before .before .before .before .before .before .before .before .before .before .before .before .before .loop .inv .accepted-table .actors-most, c .before .before .before .before .before .before .before .before .before .before .before .before .before .before .before .before .actors .ensures, c .before .before .before .before .before .before .before .before .before .before .if1 .left)
+    let f = found (stepped (c .before .before .before)) in omega (arith, turn f .loop .inv .actors-long, in-actors f)
 
 add-i : tie.Need-add-i Inv-loop μ-loop
-add-i c =
-    omega (arith, entries-so-far (c .before .before .before .before .before .before .before .before .before .before .before .before .before .before .loop .inv))
+add-i c = omega (arith, entries-so-far (turn (found (stepped (c .before .before .before))) .loop .inv))
 
 loop-less : tie.Need-loop-less Inv-loop μ-loop
 loop-less c = search needs
 
 loop-again : tie.Need-loop-again Inv-loop μ-loop
 loop-again c =
-    next-as (c .before .before .before .before .before .before .before .before .before .before .before .before .before .before .loop .inv) (c .before .before .before .before .before .before .before .before .before .before .before .before .before .loop-test .taken) (c .before .before .before .before .before .before .before .before .before .before .before .wide .result) (c .before .before .before .before .before .before .before .before .before .before .before .wide .ensures .0) (getD (c .before .before .before .before .before .before .before .before .before .before .before .before .before .before .loop .actors) (c .before .before .before .before .before .before .before .before .before .before .before .wide .result) (record { position = 0; cells = [] })) (getD-within (c .before .before .before .before .before .before .before .before .before .before .before .before .before .before .loop .actors) (c .before .before .before .before .before .before .before .before .before .before .before .wide .result) _ _ (omega (arith, c .before .before .before .before .before .before .before .before .before .before .before .before .before .before .loop .inv .actors-long, c .before .before .before .before .before .before .before .before .before .before .before .before .before .before .loop .inv .accepted-table .actors-most, c .before .before .before .before .before .before .before .before .before .before .before .before .before .before .before .before .actors .ensures, c .before .before .before .before .before .before .before .before .before .before .if1 .left))) (omega (arith, c .before .before .before .before .before .before .before .before .before .before .before .before .before .before .before .before .actors .ensures, c .before .before .before .before .before .before .before .before .before .before .if1 .left)) (omega (arith, c .before .before .before .before .before .before .before .before .actions .ensures, c .before .before .before .before .before .before .before .if2 .left)) (c .before .before .step .ensures) (c .before .if3 .taken)
+    let s = c .before .before .before in
+    let f = found (stepped s) in
+    next-as (turn f .loop .inv) (f .before .before .before .loop-test .taken) (actorAt f) (f .before .wide .ensures .0) (recordAt f) (own-record f)
+    (in-table f) (left (stepped s)) (s .step .ensures) (ap stepAs (c .before .enum-told .given .1))
+
+enum-told-2 : tie.Need-enum-told-2 Inv-loop μ-loop
+enum-told-2 c = search needs
 
 cast-t44 : tie.Need-cast-t44 Inv-loop μ-loop
-cast-t44 c =
-    omega (arith, entries-so-far (c .before .before .before .before .before .before .before .before .before .before .before .before .before .loop .inv))
+cast-t44 c = omega (arith, entries-so-far (turn (found (stepped (c .before .before))) .loop .inv))
 
 returns-3 : tie.Need-returns-3 Inv-loop μ-loop
 returns-3 c =
-    refusal (record { halt = At (Waiting (c .before .before .before .before .before .before .before .before .before .before .before .before .before .loop .i)); actors = c .before .before .before .before .before .before .before .before .before .before .before .before .before .loop .actors }) not-end (waiting-as (c .before .before .before .before .before .before .before .before .before .before .before .before .before .loop .inv) (c .before .before .before .before .before .before .before .before .before .before .before .before .loop-test .taken) (c .before .before .before .before .before .before .before .before .before .before .wide .result) (c .before .before .before .before .before .before .before .before .before .before .wide .ensures .0) (getD (c .before .before .before .before .before .before .before .before .before .before .before .before .before .loop .actors) (c .before .before .before .before .before .before .before .before .before .before .wide .result) (record { position = 0; cells = [] })) (getD-within (c .before .before .before .before .before .before .before .before .before .before .before .before .before .loop .actors) (c .before .before .before .before .before .before .before .before .before .before .wide .result) _ _ (omega (arith, c .before .before .before .before .before .before .before .before .before .before .before .before .before .loop .inv .actors-long, c .before .before .before .before .before .before .before .before .before .before .before .before .before .loop .inv .accepted-table .actors-most, c .before .before .before .before .before .before .before .before .before .before .before .before .before .before .before .actors .ensures, c .before .before .before .before .before .before .before .before .before .if1 .left))) (omega (arith, c .before .before .before .before .before .before .before .before .before .before .before .before .before .before .before .actors .ensures, c .before .before .before .before .before .before .before .before .before .if1 .left)) (omega (arith, c .before .before .before .before .before .before .before .actions .ensures, c .before .before .before .before .before .before .if2 .left)) (sym (c .before .step .ensures .ready-right) ∙ c .if3 .left))
+    let s = c .before .before in
+    let f = found (stepped s) in
+    refusal (record { halt = At (Waiting (turn f .loop .i)); actors = turn f .loop .actors }) not-end
+    (untaken-as (turn f .loop .inv) (f .before .before .before .loop-test .taken) (actorAt f) (f .before .wide .ensures .0) (recordAt f) (own-record f)
+    (in-table f) (left (stepped s)) waiting (sym (s .step .ensures .next-right) ∙ ap stepAs (c .enum-told2 .given .1)) refl)
+
+enum-told-3 : tie.Need-enum-told-3 Inv-loop μ-loop
+enum-told-3 c = search needs
+
+cast-t48 : tie.Need-cast-t48 Inv-loop μ-loop
+cast-t48 c = omega (arith, entries-so-far (turn (found (stepped (c .before .before))) .loop .inv))
 
 returns-4 : tie.Need-returns-4 Inv-loop μ-loop
 returns-4 c =
+    let s = c .before .before in
+    let f = found (stepped s) in
+    refusal (record { halt = At (Over (turn f .loop .i)); actors = turn f .loop .actors }) not-end
+    (untaken-as (turn f .loop .inv) (f .before .before .before .loop-test .taken) (actorAt f) (f .before .wide .ensures .0) (recordAt f) (own-record f)
+    (in-table f) (left (stepped s)) over (sym (s .step .ensures .next-right) ∙ ap stepAs (c .enum-told3 .given .1)) refl)
+
+returns-5 : tie.Need-returns-5 Inv-loop μ-loop
+returns-5 c =
     record { halted = λ n. checks-end (c .before .loop .inv) (c .loop-test .left) n; ended = λ e. ended (c .before .loop .inv) (c .loop-test .left) }
 
 pub play-spec : {M : Type 1} → statement M
@@ -143,6 +219,7 @@ play-spec =
     cast-t29
     returns-2
     step-requires
+    enum-told
     mul-names
     add-names
     cast-names
@@ -152,6 +229,10 @@ play-spec =
     add-i
     loop-less
     loop-again
+    enum-told-2
     cast-t44
     returns-3
-    returns-4)
+    enum-told-3
+    cast-t48
+    returns-4
+    returns-5)

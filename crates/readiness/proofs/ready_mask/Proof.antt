@@ -5,6 +5,7 @@ use mathlib.Core.List.{List, []}
 use Prim.Native.Nat.{ℕ, _+_, _-_, _*_, _<_, _≤_}
 use native.Mathlib.Omega.{arith}
 use borrow.Author.Needs.{needs}
+use lib.ListN.{getD}
 use Rattle.table.specs.Format.{actorsOf}
 use Rattle.model.specs.Step.{ready}
 use Rattle.model.specs.Ready.{bit, maskOf}
@@ -36,20 +37,30 @@ loop-holds c =
 sub-a : tie.Need-sub-a Inv-loop μ-loop
 sub-a c = search needs
 
+-- the actor that a turn looks at, which the table has, and its record
+in-table : (c : tie.In-loop Inv-loop μ-loop) → c .before .loop .a - 1 < actorsOf (c .before .before .before .args .table .now)
+in-table c = omega (arith, c .before .before .before .pre .1, c .loop-test .taken, c .before .loop .inv .0)
+
+in-actors : (c : tie.In-loop Inv-loop μ-loop) → c .before .loop .a - 1 < 8
+in-actors c = omega (arith, in-table c, c .before .before .before .pre .0 .accepted .actors-most)
+
+own-record : (c : tie.In-loop Inv-loop μ-loop) → let x = c .before .before .before .args in
+    getD (x .t3) (c .before .loop .a - 1) (record { position = 0; cells = [] }) ≡ getD (x .t3) (c .before .loop .a - 1) freshActor
+own-record c = getD-within (c .before .before .before .args .t3) (c .before .loop .a - 1) _ _ (omega (arith, in-actors c, c .before .before .before .pre .0 .actors-long))
+
 mul-r : tie.Need-mul-r Inv-loop μ-loop
-mul-r c =
-    omega (arith, c .before .before .before .pre .0 .actors-long, c .before .before .before .pre .0 .accepted .actors-most, c .before .before .before .pre .1, c .loop-test .taken)
+mul-r c = omega (arith, in-actors c)
 
 array-copy-out-r : tie.Need-array-copy-out-r Inv-loop μ-loop
-array-copy-out-r c =
-    omega (arith, c .before .before .before .pre .0 .actors-long, c .before .before .before .pre .0 .accepted .actors-most, c .before .before .before .pre .1, c .loop-test .taken)
+array-copy-out-r c = in-actors c
 
 is-ready-requires : tie.Need-is-ready-requires Inv-loop μ-loop
 is-ready-requires c κs =
     let p = c .before .before .before .before .pre .0 in
     record {
       accepted = p .accepted;
-      actor = omega (arith, c .before .before .before .before .pre .0 .actors-long, c .before .before .before .before .pre .0 .accepted .actors-most, c .before .before .before .before .pre .1, c .before .loop-test .taken);
+      actor = in-table (c .before);
+      eight = rw (own-record (c .before)) (p .eight (c .before .before .loop .a - 1));
       comms-room = p .comms-room;
       queue-room = p .queue-room;
     }
@@ -69,21 +80,21 @@ loop-less : tie.Need-loop-less Inv-loop μ-loop
 loop-less c = search needs
 
 loop-again : tie.Need-loop-again Inv-loop μ-loop
-loop-again c = (
-  omega arith,
-  λ log ends.
-      ap₂ (λ (x y : ℕ). x + 2 * y)
-      (c .bit .ensures .0
-      ∙ ap bit
-      (c .before .is-ready .ensures log ends
-      ∙ ap (λ (r : Actor). looksReady (c .before .before .before .before .before .before .args .table .now) (c .before .before .before .before .loop .a - 1) r (c .before .before .before .before .before .before .args .comms .now) (c .before .before .before .before .before .before .args .queues .now) log ends)
-      (getD-within (c .before .before .before .before .before .before .args .t3) (c .before .before .before .before .loop .a - 1) (record { position = 0; cells = [] }) freshActor (omega (arith, c .before .before .before .before .before .before .pre .0 .actors-long, c .before .before .before .before .before .before .pre .0 .accepted .actors-most, c .before .before .before .before .before .before .pre .1, c .before .before .before .loop-test .taken)))
-      ∙ sym
-      (ready-looks (c .before .before .before .before .before .before .args .table .now) (c .before .before .before .before .before .before .args .t3) (c .before .before .before .before .before .before .args .comms .now) (c .before .before .before .before .before .before .args .queues .now) log ends (c .before .before .before .before .loop .a - 1)
-      (omega (arith, c .before .before .before .before .before .before .pre .0 .actors-long, c .before .before .before .before .before .before .pre .0 .accepted .actors-most, c .before .before .before .before .before .before .pre .1, c .before .before .before .loop-test .taken)))))
-      (c .before .before .before .before .loop .inv .1 log ends)
-      ∙ sym (mask-next (ready (c .before .before .before .before .before .before .args .table .now) (siteWith (c .before .before .before .before .before .before .args .t3) (c .before .before .before .before .before .before .args .comms .now) (c .before .before .before .before .before .before .args .queues .now) log ends)) (c .before .before .before .before .before .before .args .n) (c .before .before .before .before .loop .a) (c .before .before .before .loop-test .taken) (c .before .before .before .before .loop .inv .0)),
-)
+loop-again c =
+    let w = c .before .before .before in
+    let l = w .before .loop in
+    let x = w .before .before .before .args in (
+      omega arith,
+      λ log ends.
+          ap₂ (λ (x y : ℕ). x + 2 * y)
+          (c .bit .ensures .0
+          ∙ ap bit
+          (c .before .is-ready .ensures log ends
+          ∙ ap (λ (r : Actor). looksReady (x .table .now) (l .a - 1) r (x .comms .now) (x .queues .now) log ends) (own-record w)
+          ∙ sym (ready-looks (x .table .now) (x .t3) (x .comms .now) (x .queues .now) log ends (l .a - 1) (in-table w))))
+          (l .inv .1 log ends)
+          ∙ sym (mask-next (ready (x .table .now) (siteWith (x .t3) (x .comms .now) (x .queues .now) log ends)) (x .n) (l .a) (w .loop-test .taken) (l .inv .0)),
+    )
 
 returns : tie.Need-returns Inv-loop μ-loop
 returns c =

@@ -6,16 +6,18 @@ use mathlib.Core.List.{List}
 use Prim.Native.Nat.{ℕ, _+_}
 use native.Mathlib.Omega.{arith}
 use lib.ListN.{length, getD, set}
-use mathlib.Core.Bool.{true}
+use mathlib.Core.Bool.{cond}
 use Rattle.table.specs.declared.Action.the-variants.{Set, Add, Lesser, Send, Receive, TestAny, WaitAny, Lock, Unlock, MutexTest, MutexWait}
 use Rattle.table.specs.Decode.{actionOf}
-use Rattle.model.specs.Views.{joins, leaves, waits}
+use Rattle.model.specs.Views.{joins, leaves}
 use Rattle.state.specs.State.{mailOf}
 use Rattle.mail.specs.Parts.{sendsAt, receivesAt}
 use Rattle.model.specs.Local.{Seen, pickUpSeen, placeSeen, isSeen, cellsAfter}
+use Rattle.model.specs.Step.{taken, waiting}
+use Rattle.state.specs.declared.NextStep.the-variants.{Taken}
 use Rattle.look.specs.Parts.{seenOf}
 use Rattle.step.specs.Parts.{Picks, SmallPlace}
-use Rattle.step.proofs.Taken.{ranged, position-small, actor-small, listed-small, pickable, small-place, pick-length, quiet, posted, meets-as, queued, of-next}
+use Rattle.step.proofs.Taken.{ranged, position-small, actor-small, listed-small, pickable, small-place, pick-length, quiet, posted, meets-as, queued, of-next, room-to-post}
 use borrow.Author.Needs.{needs}
 use Rattle.step.proofs.step.Statement.{statement}
 use Rattle.step.proofs.step.Tie as tie
@@ -37,14 +39,10 @@ next-requires c κs =
 enum-known-x-2 : tie.Need-enum-known-x-2
 enum-known-x-2 c = search needs
 
-add-requires : tie.Need-add-requires
-add-requires c κs =
+added-requires : tie.Need-added-requires
+added-requires c κs =
     let range = ranged (c .before .before .before .before .before .pre) _ (sym (c .before .before .before .action .ensures) ∙ c .before .x2 .given .1) in
-    (c .before .before .before .before .before .pre .eight, range .0, range .1)
-
-next-requires-2 : tie.Need-next-requires-2
-next-requires-2 c κs =
-    omega (arith, c .add .ensures .0, position-small (c .before .before .before .before .before .before .pre))
+    (c .before .before .before .before .before .pre .eight, range .0, range .1, position-small (c .before .before .before .before .before .pre))
 
 enum-known-x-3 : tie.Need-enum-known-x-3
 enum-known-x-3 c = search needs
@@ -54,8 +52,8 @@ lesser-requires c κs =
     let range = ranged (c .before .before .before .before .before .pre) _ (sym (c .before .before .before .action .ensures) ∙ c .before .x3 .given .1) in
     (c .before .before .before .before .before .pre .eight, range .0, range .1)
 
-next-requires-3 : tie.Need-next-requires-3
-next-requires-3 c κs =
+next-requires-2 : tie.Need-next-requires-2
+next-requires-2 c κs =
     omega (arith, c .lesser .ensures .0, position-small (c .before .before .before .before .before .before .pre))
 
 enum-known-x-4 : tie.Need-enum-known-x-4
@@ -80,10 +78,10 @@ send-requires : tie.Need-send-requires
 send-requires c κs =
     let S = c .before .before .before .before .before .before .before .before .before .pre in
     let range = ranged (c .before .before .before .before .before .before .before .before .before .pre) _ (sym (c .before .before .before .before .before .before .before .action .ensures) ∙ c .before .before .before .before .before .x4 .given .1) in
-    (S .mail-room, omega (arith, position-small S, actor-small S), omega (arith, range .0, S .accepted .mailboxes-most), S .tail-room (ap waits (sym (c .before .before .before .before .before .before .before .action .ensures) ∙ c .before .before .before .before .before .x4 .given .1)) _)
+    (S .mail-room, omega (arith, position-small S, actor-small S), omega (arith, range .0, S .accepted .mailboxes-most), room-to-post S _ (sym (c .before .before .before .before .before .before .before .action .ensures) ∙ c .before .before .before .before .before .x4 .given .1) refl _)
 
-next-requires-4 : tie.Need-next-requires-4
-next-requires-4 c κs =
+next-requires-3 : tie.Need-next-requires-3
+next-requires-3 c κs =
     position-small (c .before .before .before .before .before .before .before .before .before .before .pre)
 
 enum-known-x-5 : tie.Need-enum-known-x-5
@@ -100,10 +98,10 @@ receive-requires : tie.Need-receive-requires
 receive-requires c κs =
     let S = c .before .before .before .before .before .before .before .before .pre in
     let range = ranged (c .before .before .before .before .before .before .before .before .pre) _ (sym (c .before .before .before .before .before .before .action .ensures) ∙ c .before .before .before .before .x5 .given .1) in
-    (S .mail-room, omega (arith, position-small S, actor-small S), omega (arith, range .0, S .accepted .mailboxes-most), S .tail-room (ap waits (sym (c .before .before .before .before .before .before .action .ensures) ∙ c .before .before .before .before .x5 .given .1)) _)
+    (S .mail-room, omega (arith, position-small S, actor-small S), omega (arith, range .0, S .accepted .mailboxes-most), room-to-post S _ (sym (c .before .before .before .before .before .before .action .ensures) ∙ c .before .before .before .before .x5 .given .1) refl _)
 
-next-requires-5 : tie.Need-next-requires-5
-next-requires-5 c κs =
+next-requires-4 : tie.Need-next-requires-4
+next-requires-4 c κs =
     position-small (c .before .before .before .before .before .before .before .before .before .pre)
 
 enum-known-x-6 : tie.Need-enum-known-x-6
@@ -138,8 +136,8 @@ communications-requires-2 c κs =
     let range = ranged (c .before .before .before .before .before .before .pre) _ (sym (c .before .before .before .before .action .ensures) ∙ c .before .before .x7 .given .1) in
     (S .mail-room .comms-room, actor-small S, listed-small S _ (range .1))
 
-is-seen-requires : tie.Need-is-seen-requires
-is-seen-requires c κs = search needs
+awaited-requires : tie.Need-awaited-requires
+awaited-requires c κs = search needs
 
 picked-requires-2 : tie.Need-picked-requires-2
 picked-requires-2 c κs =
@@ -164,8 +162,8 @@ join-requires c κs =
     let range = ranged (c .before .before .before .before .before .before .pre) _ (sym (c .before .before .before .before .action .ensures) ∙ c .before .before .x8 .given .1) in
     (S .queue-room, omega (arith, range, S .accepted .mutexes-most), actor-small S, S .join-room _)
 
-next-requires-6 : tie.Need-next-requires-6
-next-requires-6 c κs =
+next-requires-5 : tie.Need-next-requires-5
+next-requires-5 c κs =
     position-small (c .before .before .before .before .before .before .before .pre)
 
 enum-known-x-9 : tie.Need-enum-known-x-9
@@ -177,8 +175,8 @@ leave-requires c κs =
     let range = ranged (c .before .before .before .before .before .before .pre) _ (sym (c .before .before .before .before .action .ensures) ∙ c .before .before .x9 .given .1) in
     (S .queue-room, omega (arith, range, S .accepted .mutexes-most), actor-small S)
 
-next-requires-7 : tie.Need-next-requires-7
-next-requires-7 c κs =
+next-requires-6 : tie.Need-next-requires-6
+next-requires-6 c κs =
     position-small (c .before .before .before .before .before .before .before .pre)
 
 enum-known-x-10 : tie.Need-enum-known-x-10
@@ -205,8 +203,8 @@ mutexes-requires-2 c κs =
     let range = ranged (c .before .before .before .before .before .before .pre) _ (sym (c .before .before .before .before .action .ensures) ∙ c .before .before .x11 .given .1) in
     (S .queue-room, λ j h. omega (arith, range .1 .right j h, S .accepted .mutexes-most))
 
-is-seen-requires-2 : tie.Need-is-seen-requires-2
-is-seen-requires-2 c κs = search needs
+awaited-requires-2 : tie.Need-awaited-requires-2
+awaited-requires-2 c κs = search needs
 
 told-requires-4 : tie.Need-told-requires-4
 told-requires-4 c κs =
@@ -218,91 +216,89 @@ returns : tie.Need-returns
 unfolding cellsAfter
 returns c =
     of-next (Set (c .before .before .before .x .given .0 .0) (c .before .before .before .x .given .0 .1 .0)) (sym (c .before .before .before .before .before .action .ensures) ∙ c .before .before .before .x .given .1)
-    (quiet (c .before .before .before .before .before .before .before .pre) (Set (c .before .before .before .x .given .0 .0) (c .before .before .before .x .given .0 .1 .0)) (record { ready = true; actor = c .next .result }) refl refl
-    (c .next .ensures .0 ∙ ap (λ (n : ℕ). n + 1) (c .before .put .ensures .0))
-    (c .next .ensures .1 ∙ c .before .put .ensures .1))
+    (quiet (c .before .before .before .before .before .before .before .pre) (Set (c .before .before .before .x .given .0 .0) (c .before .before .before .x .given .0 .1 .0)) (record { next = Taken; actor = c .next .result }) refl refl
+    (λ t. (c .next .ensures .0 ∙ ap (λ (n : ℕ). n + 1) (c .before .put .ensures .0), c .next .ensures .1 ∙ c .before .put .ensures .1)))
 
 returns-2 : tie.Need-returns-2
 unfolding cellsAfter
 returns-2 c =
-    of-next (Add (c .before .before .before .x2 .given .0 .0) (c .before .before .before .x2 .given .0 .1 .0)) (sym (c .before .before .before .before .before .action .ensures) ∙ c .before .before .before .x2 .given .1)
-    (quiet (c .before .before .before .before .before .before .before .pre) (Add (c .before .before .before .x2 .given .0 .0) (c .before .before .before .x2 .given .0 .1 .0)) (record { ready = true; actor = c .next2 .result }) refl refl
-    (c .next2 .ensures .0 ∙ ap (λ (n : ℕ). n + 1) (c .before .add .ensures .0))
-    (c .next2 .ensures .1 ∙ c .before .add .ensures .1))
+    of-next (Add (c .before .before .x2 .given .0 .0) (c .before .before .x2 .given .0 .1 .0)) (sym (c .before .before .before .before .action .ensures) ∙ c .before .before .x2 .given .1)
+    (quiet (c .before .before .before .before .before .before .pre) (Add (c .before .before .x2 .given .0 .0) (c .before .before .x2 .given .0 .1 .0)) (c .added .result) refl (c .added .ensures .next-right) (c .added .ensures .after))
 
 returns-3 : tie.Need-returns-3
 unfolding cellsAfter
 returns-3 c =
     of-next (Lesser (c .before .before .before .x3 .given .0 .0) (c .before .before .before .x3 .given .0 .1 .0)) (sym (c .before .before .before .before .before .action .ensures) ∙ c .before .before .before .x3 .given .1)
-    (quiet (c .before .before .before .before .before .before .before .pre) (Lesser (c .before .before .before .x3 .given .0 .0) (c .before .before .before .x3 .given .0 .1 .0)) (record { ready = true; actor = c .next3 .result }) refl refl
-    (c .next3 .ensures .0 ∙ ap (λ (n : ℕ). n + 1) (c .before .lesser .ensures .0))
-    (c .next3 .ensures .1 ∙ c .before .lesser .ensures .1))
+    (quiet (c .before .before .before .before .before .before .before .pre) (Lesser (c .before .before .before .x3 .given .0 .0) (c .before .before .before .x3 .given .0 .1 .0)) (record { next = Taken; actor = c .next2 .result }) refl refl
+    (λ t. (c .next2 .ensures .0 ∙ ap (λ (n : ℕ). n + 1) (c .before .lesser .ensures .0), c .next2 .ensures .1 ∙ c .before .lesser .ensures .1)))
 
 returns-4 : tie.Need-returns-4
 unfolding cellsAfter
 returns-4 c =
     of-next (Send (c .before .before .before .before .before .before .before .x4 .given .0 .0) (c .before .before .before .before .before .before .before .x4 .given .0 .1 .0)) (sym (c .before .before .before .before .before .before .before .before .before .action .ensures) ∙ c .before .before .before .before .before .before .before .x4 .given .1)
-    (posted (c .before .before .before .before .before .before .before .before .before .before .before .pre) (Send (c .before .before .before .before .before .before .before .x4 .given .0 .0) (c .before .before .before .before .before .before .before .x4 .given .0 .1 .0)) (record { ready = true; actor = c .next4 .result }) (sendsAt (c .before .before .before .before .before .before .before .x4 .given .0 .0)) (getD (c .before .before .before .before .before .before .before .before .before .before .before .args .t3 .cells) (c .before .before .before .before .before .before .before .x4 .given .0 .1 .0) 0) refl refl refl
+    (posted (c .before .before .before .before .before .before .before .before .before .before .before .pre) (Send (c .before .before .before .before .before .before .before .x4 .given .0 .0) (c .before .before .before .before .before .before .before .x4 .given .0 .1 .0)) (record { next = Taken; actor = c .next3 .result }) (sendsAt (c .before .before .before .before .before .before .before .x4 .given .0 .0)) (getD (c .before .before .before .before .before .before .before .before .before .before .before .args .t3 .cells) (c .before .before .before .before .before .before .before .x4 .given .0 .1 .0) 0) refl refl refl
     (c .before .send .ensures .mail ∙ meets-as (c .before .before .before .before .before .before .before .before .before .before .before .pre) (sendsAt (c .before .before .before .before .before .before .before .x4 .given .0 .0)) (getD (c .before .before .before .before .before .before .before .before .before .before .before .args .t3 .cells) (c .before .before .before .before .before .before .before .x4 .given .0 .1 .0) 0) (mailOf (c .before .before .before .before .before .before .before .before .before .before .before .args .comms .now) (c .before .before .before .before .before .before .before .before .before .before .before .args .log .now) (c .before .before .before .before .before .before .before .before .before .before .before .args .ends .now)))
-    (c .before .send .ensures .room) (c .before .send .ensures .grown) (c .next4 .ensures .0) (c .next4 .ensures .1))
+    (c .before .send .ensures .room) (c .before .send .ensures .grown) (λ t. (c .next3 .ensures .0, c .next3 .ensures .1)))
 
 returns-5 : tie.Need-returns-5
 unfolding cellsAfter
 returns-5 c =
     of-next (Receive (c .before .before .before .before .before .before .x5 .given .0 .0) (c .before .before .before .before .before .before .x5 .given .0 .1 .0)) (sym (c .before .before .before .before .before .before .before .before .action .ensures) ∙ c .before .before .before .before .before .before .x5 .given .1)
-    (posted (c .before .before .before .before .before .before .before .before .before .before .pre) (Receive (c .before .before .before .before .before .before .x5 .given .0 .0) (c .before .before .before .before .before .before .x5 .given .0 .1 .0)) (record { ready = true; actor = c .next5 .result }) (receivesAt (c .before .before .before .before .before .before .x5 .given .0 .0)) 0 refl refl refl
+    (posted (c .before .before .before .before .before .before .before .before .before .before .pre) (Receive (c .before .before .before .before .before .before .x5 .given .0 .0) (c .before .before .before .before .before .before .x5 .given .0 .1 .0)) (record { next = Taken; actor = c .next4 .result }) (receivesAt (c .before .before .before .before .before .before .x5 .given .0 .0)) 0 refl refl refl
     (c .before .receive .ensures .mail ∙ meets-as (c .before .before .before .before .before .before .before .before .before .before .pre) (receivesAt (c .before .before .before .before .before .before .x5 .given .0 .0)) 0 (mailOf (c .before .before .before .before .before .before .before .before .before .before .args .comms .now) (c .before .before .before .before .before .before .before .before .before .before .args .log .now) (c .before .before .before .before .before .before .before .before .before .before .args .ends .now)))
-    (c .before .receive .ensures .room) (c .before .receive .ensures .grown) (c .next5 .ensures .0) (c .next5 .ensures .1))
+    (c .before .receive .ensures .room) (c .before .receive .ensures .grown) (λ t. (c .next4 .ensures .0, c .next4 .ensures .1)))
 
 returns-6 : tie.Need-returns-6
 unfolding cellsAfter
 returns-6 c =
     of-next (TestAny (c .before .before .before .before .before .x6 .given .0 .0) (c .before .before .before .before .before .x6 .given .0 .1 .0)) (sym (c .before .before .before .before .before .before .before .action .ensures) ∙ c .before .before .before .before .before .x6 .given .1)
-    (quiet (c .before .before .before .before .before .before .before .before .before .pre) (TestAny (c .before .before .before .before .before .x6 .given .0 .0) (c .before .before .before .before .before .x6 .given .0 .1 .0)) (record { ready = true; actor = c .told .result }) refl refl
-    (c .told .ensures .0 ∙ ap (λ (n : ℕ). n + 1) (c .before .picked .ensures .0))
-    (c .told .ensures .1
-    ∙ ap (λ (cs : List ℕ). set cs (c .before .before .before .before .before .x6 .given .0 .0) (placeSeen (seenOf (c .before .before .communications .result)))) (c .before .picked .ensures .1)
-    ∙ ap (λ (f : Seen). set (pickUpSeen (actionOf (c .before .before .before .before .before .before .before .before .before .args .table .now) (c .before .before .before .before .before .before .before .before .before .args .a)) f (c .before .before .before .before .before .before .before .before .before .args .t3 .cells)) (c .before .before .before .before .before .x6 .given .0 .0) (placeSeen f)) (c .before .before .communications .ensures)))
+    (quiet (c .before .before .before .before .before .before .before .before .before .pre) (TestAny (c .before .before .before .before .before .x6 .given .0 .0) (c .before .before .before .before .before .x6 .given .0 .1 .0)) (record { next = Taken; actor = c .told .result }) refl refl
+    (λ t. (
+      c .told .ensures .0 ∙ ap (λ (n : ℕ). n + 1) (c .before .picked .ensures .0),
+      c .told .ensures .1
+          ∙ ap (λ (cs : List ℕ). set cs (c .before .before .before .before .before .x6 .given .0 .0) (placeSeen (seenOf (c .before .before .communications .result)))) (c .before .picked .ensures .1)
+          ∙ ap (λ (f : Seen). set (pickUpSeen (actionOf (c .before .before .before .before .before .before .before .before .before .args .table .now) (c .before .before .before .before .before .before .before .before .before .args .a)) f (c .before .before .before .before .before .before .before .before .before .args .t3 .cells)) (c .before .before .before .before .before .x6 .given .0 .0) (placeSeen f)) (c .before .before .communications .ensures),
+    )))
 
 returns-7 : tie.Need-returns-7
 unfolding cellsAfter
 returns-7 c =
     of-next (WaitAny (c .before .before .before .before .before .before .x7 .given .0 .0) (c .before .before .before .before .before .before .x7 .given .0 .1 .0)) (sym (c .before .before .before .before .before .before .before .before .action .ensures) ∙ c .before .before .before .before .before .before .x7 .given .1)
-    (quiet (c .before .before .before .before .before .before .before .before .before .before .pre) (WaitAny (c .before .before .before .before .before .before .x7 .given .0 .0) (c .before .before .before .before .before .before .x7 .given .0 .1 .0)) (record { ready = c .before .before .is-seen .result; actor = c .told2 .result }) refl (c .before .before .is-seen .ensures ∙ ap isSeen (c .before .before .before .communications2 .ensures))
-    (c .told2 .ensures .0 ∙ ap (λ (n : ℕ). n + 1) (c .before .picked2 .ensures .0))
-    (c .told2 .ensures .1
-    ∙ ap (λ (cs : List ℕ). set cs (c .before .before .before .before .before .before .x7 .given .0 .0) (placeSeen (seenOf (c .before .before .before .communications2 .result)))) (c .before .picked2 .ensures .1)
-    ∙ ap (λ (f : Seen). set (pickUpSeen (actionOf (c .before .before .before .before .before .before .before .before .before .before .args .table .now) (c .before .before .before .before .before .before .before .before .before .before .args .a)) f (c .before .before .before .before .before .before .before .before .before .before .args .t3 .cells)) (c .before .before .before .before .before .before .x7 .given .0 .0) (placeSeen f)) (c .before .before .before .communications2 .ensures)))
+    (quiet (c .before .before .before .before .before .before .before .before .before .before .pre) (WaitAny (c .before .before .before .before .before .before .x7 .given .0 .0) (c .before .before .before .before .before .before .x7 .given .0 .1 .0)) (record { next = c .before .before .awaited .result; actor = c .told2 .result }) refl (c .before .before .awaited .ensures ∙ ap (λ (f : Seen). cond (isSeen f) taken waiting) (c .before .before .before .communications2 .ensures))
+    (λ t. (
+      c .told2 .ensures .0 ∙ ap (λ (n : ℕ). n + 1) (c .before .picked2 .ensures .0),
+      c .told2 .ensures .1
+          ∙ ap (λ (cs : List ℕ). set cs (c .before .before .before .before .before .before .x7 .given .0 .0) (placeSeen (seenOf (c .before .before .before .communications2 .result)))) (c .before .picked2 .ensures .1)
+          ∙ ap (λ (f : Seen). set (pickUpSeen (actionOf (c .before .before .before .before .before .before .before .before .before .before .args .table .now) (c .before .before .before .before .before .before .before .before .before .before .args .a)) f (c .before .before .before .before .before .before .before .before .before .before .args .t3 .cells)) (c .before .before .before .before .before .before .x7 .given .0 .0) (placeSeen f)) (c .before .before .before .communications2 .ensures),
+    )))
 
 returns-8 : tie.Need-returns-8
 unfolding cellsAfter
 returns-8 c =
     of-next (Lock (c .before .before .before .before .x8 .given .0 .0)) (sym (c .before .before .before .before .before .before .action .ensures) ∙ c .before .before .before .before .x8 .given .1)
-    (queued (c .before .before .before .before .before .before .before .before .pre) (Lock (c .before .before .before .before .x8 .given .0 .0)) (record { ready = true; actor = c .next6 .result }) (joins (c .before .before .before .before .x8 .given .0 .0)) refl refl (λ me v mail. refl)
-    (c .before .join .ensures .0) (c .before .join .ensures .1) (c .next6 .ensures .0) (c .next6 .ensures .1))
+    (queued (c .before .before .before .before .before .before .before .before .pre) (Lock (c .before .before .before .before .x8 .given .0 .0)) (record { next = Taken; actor = c .next5 .result }) (joins (c .before .before .before .before .x8 .given .0 .0)) refl refl (λ me v mail. refl)
+    (c .before .join .ensures .0) (c .before .join .ensures .1) (λ t. (c .next5 .ensures .0, c .next5 .ensures .1)))
 
 returns-9 : tie.Need-returns-9
 unfolding cellsAfter
 returns-9 c =
     of-next (Unlock (c .before .before .before .before .x9 .given .0 .0)) (sym (c .before .before .before .before .before .before .action .ensures) ∙ c .before .before .before .before .x9 .given .1)
-    (queued (c .before .before .before .before .before .before .before .before .pre) (Unlock (c .before .before .before .before .x9 .given .0 .0)) (record { ready = true; actor = c .next7 .result }) (leaves (c .before .before .before .before .x9 .given .0 .0)) refl refl (λ me v mail. refl)
-    (c .before .leave .ensures .0) (c .before .leave .ensures .1) (c .next7 .ensures .0) (c .next7 .ensures .1))
+    (queued (c .before .before .before .before .before .before .before .before .pre) (Unlock (c .before .before .before .before .x9 .given .0 .0)) (record { next = Taken; actor = c .next6 .result }) (leaves (c .before .before .before .before .x9 .given .0 .0)) refl refl (λ me v mail. refl)
+    (c .before .leave .ensures .0) (c .before .leave .ensures .1) (λ t. (c .next6 .ensures .0, c .next6 .ensures .1)))
 
 returns-10 : tie.Need-returns-10
 unfolding cellsAfter
 returns-10 c =
     of-next (MutexTest (c .before .before .before .before .x10 .given .0 .0) (c .before .before .before .before .x10 .given .0 .1 .0)) (sym (c .before .before .before .before .before .before .action .ensures) ∙ c .before .before .before .before .x10 .given .1)
-    (quiet (c .before .before .before .before .before .before .before .before .pre) (MutexTest (c .before .before .before .before .x10 .given .0 .0) (c .before .before .before .before .x10 .given .0 .1 .0)) (record { ready = true; actor = c .told3 .result }) refl refl
-    (c .told3 .ensures .0)
-    (c .told3 .ensures .1 ∙ ap (λ (f : Seen). set (c .before .before .before .before .before .before .before .before .args .t3 .cells) (c .before .before .before .before .x10 .given .0 .0) (placeSeen f)) (c .before .mutexes .ensures)))
+    (quiet (c .before .before .before .before .before .before .before .before .pre) (MutexTest (c .before .before .before .before .x10 .given .0 .0) (c .before .before .before .before .x10 .given .0 .1 .0)) (record { next = Taken; actor = c .told3 .result }) refl refl
+    (λ t. (c .told3 .ensures .0, c .told3 .ensures .1 ∙ ap (λ (f : Seen). set (c .before .before .before .before .before .before .before .before .args .t3 .cells) (c .before .before .before .before .x10 .given .0 .0) (placeSeen f)) (c .before .mutexes .ensures))))
 
 returns-11 : tie.Need-returns-11
 unfolding cellsAfter
 returns-11 c =
     of-next (MutexWait (c .before .before .before .before .before .x11 .given .0 .0) (c .before .before .before .before .before .x11 .given .0 .1 .0)) (sym (c .before .before .before .before .before .before .before .action .ensures) ∙ c .before .before .before .before .before .x11 .given .1)
-    (quiet (c .before .before .before .before .before .before .before .before .before .pre) (MutexWait (c .before .before .before .before .before .x11 .given .0 .0) (c .before .before .before .before .before .x11 .given .0 .1 .0)) (record { ready = c .before .is-seen2 .result; actor = c .told4 .result }) refl (c .before .is-seen2 .ensures ∙ ap isSeen (c .before .before .mutexes2 .ensures))
-    (c .told4 .ensures .0)
-    (c .told4 .ensures .1 ∙ ap (λ (f : Seen). set (c .before .before .before .before .before .before .before .before .before .args .t3 .cells) (c .before .before .before .before .before .x11 .given .0 .0) (placeSeen f)) (c .before .before .mutexes2 .ensures)))
+    (quiet (c .before .before .before .before .before .before .before .before .before .pre) (MutexWait (c .before .before .before .before .before .x11 .given .0 .0) (c .before .before .before .before .before .x11 .given .0 .1 .0)) (record { next = c .before .awaited2 .result; actor = c .told4 .result }) refl (c .before .awaited2 .ensures ∙ ap (λ (f : Seen). cond (isSeen f) taken waiting) (c .before .before .mutexes2 .ensures))
+    (λ t. (c .told4 .ensures .0, c .told4 .ensures .1 ∙ ap (λ (f : Seen). set (c .before .before .before .before .before .before .before .before .before .args .t3 .cells) (c .before .before .before .before .before .x11 .given .0 .0) (placeSeen f)) (c .before .before .mutexes2 .ensures))))
 
 pub step-spec : {M : Type 1} → statement M
 step-spec =
@@ -313,44 +309,43 @@ step-spec =
     put-requires
     next-requires
     enum-known-x-2
-    add-requires
-    next-requires-2
+    added-requires
     enum-known-x-3
     lesser-requires
-    next-requires-3
+    next-requires-2
     enum-known-x-4
     mul-value
     element-copy-out-value
     mul-send
     add-send
     send-requires
-    next-requires-4
+    next-requires-3
     enum-known-x-5
     mul-receive
     add-receive
     receive-requires
-    next-requires-5
+    next-requires-4
     enum-known-x-6
     communications-requires
     picked-requires
     told-requires
     enum-known-x-7
     communications-requires-2
-    is-seen-requires
+    awaited-requires
     picked-requires-2
     told-requires-2
     enum-known-x-8
     join-requires
-    next-requires-6
+    next-requires-5
     enum-known-x-9
     leave-requires
-    next-requires-7
+    next-requires-6
     enum-known-x-10
     mutexes-requires
     told-requires-3
     enum-known-x-11
     mutexes-requires-2
-    is-seen-requires-2
+    awaited-requires-2
     told-requires-4
     returns
     returns-2
