@@ -29,15 +29,15 @@ fn local_steps() {
         set(0, 3),
         large,
         add(0, 1),
-        lesser(1, 0),
+        lesser(0, 1),
         set(1, 2),
         add(1, 1),
     ]]);
     let after = |steps: usize| cells(&table, &vec![0; steps], 0)[..2].to_vec();
     assert_eq!(after(2), [3, u32::MAX - 3]);
     assert_eq!(after(3), [u32::MAX, u32::MAX - 3]);
-    assert_eq!(after(4), [u32::MAX, u32::MAX - 3]);
-    assert_eq!(after(6), [u32::MAX, 4]);
+    assert_eq!(after(4), [u32::MAX - 3, u32::MAX - 3]);
+    assert_eq!(after(6), [u32::MAX - 3, 4]);
 }
 
 #[test]
