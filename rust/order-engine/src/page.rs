@@ -21,7 +21,7 @@ pub const PAGE_ROOM: usize = 816;
 /// at least [`PAGE_ROOM`] bytes: a line for each actor, with its number, position, status and cells.
 /// Answers with the page; bytes after it keep what they held.
 ///
-/// Refusals: 20, then 1 to 9, then 11 to 13. A refused call writes nothing.
+/// Refusals: 20, then 1 to 9, then 11 to 13 and 21. A refused call writes nothing.
 ///
 /// ```
 /// // One actor that sets cell 0 to 7.
