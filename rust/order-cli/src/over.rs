@@ -12,7 +12,7 @@ pub fn reason(actor: &Actor, add: &Action) -> String {
         true => format!("{into} in cell {p}, doubled, makes"),
         false => format!("{into} in cell {p} and {added} in cell {q} make"),
     };
-    format!("{cells} {sum}, a cell holds at most {}", u32::MAX)
+    format!("{cells} {sum}, and a cell holds at most {}", u32::MAX)
 }
 
 #[cfg(test)]
@@ -35,11 +35,11 @@ mod tests {
     fn both_cells_with_what_they_hold() {
         assert_eq!(
             said([4_294_967_290, 6], add(0, 1)),
-            "4294967290 in cell 0 and 6 in cell 1 make 4294967296, a cell holds at most 4294967295"
+            "4294967290 in cell 0 and 6 in cell 1 make 4294967296, and a cell holds at most 4294967295"
         );
         assert_eq!(
             said([1, u32::MAX], add(1, 0)),
-            "4294967295 in cell 1 and 1 in cell 0 make 4294967296, a cell holds at most 4294967295"
+            "4294967295 in cell 1 and 1 in cell 0 make 4294967296, and a cell holds at most 4294967295"
         );
     }
 
@@ -47,7 +47,7 @@ mod tests {
     fn one_cell_with_itself() {
         assert_eq!(
             said([0, u32::MAX], add(1, 1)),
-            "4294967295 in cell 1, doubled, makes 8589934590, a cell holds at most 4294967295"
+            "4294967295 in cell 1, doubled, makes 8589934590, and a cell holds at most 4294967295"
         );
     }
 }

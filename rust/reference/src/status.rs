@@ -3,6 +3,7 @@
 use crate::action::Action;
 use crate::next::Next;
 use crate::site::Site;
+use crate::table::Table;
 
 /// How an actor stands.
 #[derive(Clone, Copy, PartialEq, Eq, Debug)]
@@ -20,6 +21,11 @@ pub enum Status {
 impl Status {
     /// All of them.
     pub const ALL: [Self; 4] = [Self::Ready, Self::Waits, Self::Over, Self::Finished];
+
+    /// How `actor` stands in a state that the table's steps reached. Panics where there is no such actor.
+    pub fn in_state(table: &Table, site: &Site, actor: usize) -> Self {
+        Self::of(table.script(actor), site, actor)
+    }
 
     /// How `actor` stands, whose actions are `script`.
     pub(crate) fn of(script: &[[u8; 8]], site: &Site, actor: usize) -> Self {
