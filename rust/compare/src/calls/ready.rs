@@ -36,7 +36,7 @@ pub const CALL: Call = Call {
             .refused(&Reason::OF_TABLE, 200)
             .places(&Reason::OF_FIRST, 2_000)
             .notes(&[FINISHED, STUCK_WAITING, GOING, GOING_WAITING], 5_000)
-            .notes(&[STUCK_OVER, STUCK_BOTH, GOING_OVER, GOING_BOTH], 500);
+            .notes(&[STUCK_OVER, STUCK_BOTH, GOING_OVER, GOING_BOTH], 300);
         totals::demands(demands, &[Reason::Over], 1_000)
     },
 };

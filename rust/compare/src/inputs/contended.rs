@@ -75,7 +75,7 @@ fn few(rng: &mut Rng) -> u8 {
 /// A table of a size, and a schedule that runs it to its end if it was made along one.
 pub fn table(rng: &mut Rng, size: Size) -> (Sample, Option<Vec<u8>>) {
     let shape = size.shape(rng);
-    if rng.once_in(16) {
+    if rng.once_in(8) {
         return (totals::table(rng, shape), None);
     }
     let mix = rng.pick(&Mix::ALL);
