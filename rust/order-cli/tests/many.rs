@@ -4,6 +4,7 @@
 
 use compare::inputs::rng::Rng;
 use compare::inputs::sample::{Sample, Shape};
+use compare::inputs::totals;
 use order_cli::difference::{Pairs, difference};
 use order_cli::names::names;
 use order_cli::rule::rule;
@@ -207,7 +208,9 @@ fn an_actor_stands_as_the_page_says() {
     let mut rng = Rng::new(5);
     let mut met: HashMap<&str, usize> = HashMap::new();
     for _ in 0..1_000 {
-        let table = Table::of(&layout(&mut rng).bytes()).expect("an accepted table");
+        let shape = Shape::any(&mut rng);
+        let sample = totals::table(&mut rng, shape);
+        let table = Table::of(&sample.bytes).expect("an accepted table");
         let most = rng.below(100);
         let schedule = walk(&mut rng, &table.bytes, most);
         let (mut buffer, mut laid) = ([0; REPORT_ROOM], [0; PAGE_ROOM]);
