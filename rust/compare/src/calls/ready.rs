@@ -22,7 +22,7 @@ pub const CALL: Call = Call {
     refusals: &[&Reason::OF_TABLE, &Reason::OF_FIRST],
     cases: 220_000,
     next: |rng, input| input.read = Steps::any(rng).slices(),
-    sweep: totals::sweep,
+    sweep: totals::sweep_one,
     engine: |lent| order_engine::ready::fields(lent.read[0], lent.read[1]).into(),
     reference: |lent: Lent| {
         let answer = reference::ready(lent.read[0], lent.read[1]);

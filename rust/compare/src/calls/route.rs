@@ -32,7 +32,7 @@ pub const CALL: Call = Call {
     ],
     cases: 130_000,
     next,
-    sweep: totals::sweep,
+    sweep: totals::sweep_two,
     engine: |lent| {
         let [table, first, second] = lent.read;
         order_engine::route::fields(table, first, second, lent.entries).into()

@@ -19,20 +19,32 @@ use tables::layout::CELLS;
 /// The most that a cell holds.
 const MOST: u64 = u32::MAX as u64;
 
-/// Every pair of cells with every pair of values around the limit: their Add run in both schedules, and
-/// in the second alone.
-pub fn sweep(_: &mut Rng, each: &mut Each<'_>) -> ControlFlow<()> {
-    let whole = [0; 3];
+/// The two Sets and the Add, and the Sets alone.
+const WHOLE: &[u8] = &[0; 3];
+const BEFORE: &[u8] = &[0; 2];
+
+/// Goes through all pairs for a call of one schedule: the Add run, and come to.
+pub fn sweep_one(_: &mut Rng, each: &mut Each<'_>) -> ControlFlow<()> {
+    all_pairs([[WHOLE, &[]], [BEFORE, &[]]], each)
+}
+
+/// Goes through all pairs for a call of two schedules: the Add run in both, and in the second alone.
+pub fn sweep_two(_: &mut Rng, each: &mut Each<'_>) -> ControlFlow<()> {
+    all_pairs([[WHOLE, WHOLE], [BEFORE, WHOLE]], each)
+}
+
+/// The Add of every pair of cells with every pair of values around the limit, by these schedules.
+fn all_pairs(schedules: [[&[u8]; 2]; 2], each: &mut Each<'_>) -> ControlFlow<()> {
     let mut input = Input {
         bytes: vec![7; REPORT_ROOM],
-        entries: vec![7; room(whole.len())],
+        entries: vec![7; room(WHOLE.len())],
         ..Input::default()
     };
     for cells in pairs(0..CELLS) {
         for values in pairs(AROUND) {
             let table = Layout::new(0, 0, &[&summed(cells, values)]).bytes();
-            for first in [&whole[..], &whole[..2]] {
-                input.read = [table.clone(), first.to_vec(), whole.to_vec()];
+            for [first, second] in schedules {
+                input.read = [&table, first, second].map(<[u8]>::to_vec);
                 each(&input)?;
             }
         }

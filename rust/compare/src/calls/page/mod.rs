@@ -27,7 +27,7 @@ pub const CALL: Call = Call {
         input.read = make(rng).slices();
         buffers::bytes(rng, &mut input.bytes, PAGE_ROOM);
     },
-    sweep: totals::sweep,
+    sweep: totals::sweep_one,
     engine: |lent| order_engine::page::fields(lent.read[0], lent.read[1], lent.bytes).into(),
     reference: |lent: Lent| {
         let answer = reference::page(lent.read[0], lent.read[1], lent.bytes);

@@ -25,7 +25,7 @@ pub const CALL: Call = Call {
         input.read = Steps::any(rng).slices();
         buffers::bytes(rng, &mut input.bytes, REPORT_ROOM);
     },
-    sweep: totals::sweep,
+    sweep: totals::sweep_one,
     engine: |lent| order_engine::run::fields(lent.read[0], lent.read[1], lent.bytes).into(),
     reference: |lent: Lent| {
         let answer = reference::run(lent.read[0], lent.read[1], lent.bytes);

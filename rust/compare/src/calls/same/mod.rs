@@ -25,7 +25,7 @@ pub const CALL: Call = Call {
     refusals: &[&Reason::OF_TABLE, &Reason::OF_FIRST, &Reason::OF_SECOND],
     cases: 130_000,
     next: |rng, input| input.read = Twins::any(rng).slices(),
-    sweep: totals::sweep,
+    sweep: totals::sweep_two,
     engine: |lent| {
         let [table, first, second] = lent.read;
         order_engine::same::fields(table, first, second).into()
