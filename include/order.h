@@ -131,8 +131,9 @@ typedef struct {
 } OrderPage;
 
 /* Runs a schedule from a fresh site and lays its end state out as a text in the first bytes of `page`: for each
- * actor a line of 101 characters and a line feed, with its number, position, status and cells. No 0 follows it,
- * and the bytes after it stay as they were. Refusals, in this order: 20; 1 to 9; 11 to 13 and 21.
+ * actor a line of 101 characters and a line feed, with its number, position, status (`ready`, `waits`, `over` or
+ * `finished`) and cells. No 0 follows it, and the bytes after it stay as they were. Refusals, in this order: 20;
+ * 1 to 9; 11 to 13 and 21.
  */
 OrderPage order_page(const uint8_t *table, size_t table_length, const uint8_t *schedule, size_t schedule_length,
                      uint8_t *page, size_t page_length);

@@ -82,10 +82,9 @@ impl<'a> State<'a> {
 
     /// That nobody is ready; where a total runs over, who waits and who is over.
     fn stuck(&self) -> String {
-        let actors: Vec<Actor> = self.report.actors().collect();
         let (mut waits, mut over) = (Vec::new(), Vec::new());
-        for actor in &actors {
-            match self.status(actor) {
+        for actor in self.report.actors() {
+            match self.status(&actor) {
                 Status::Waits(..) => waits.push(actor.number),
                 Status::Over(..) => over.push(actor.number),
                 Status::Finished | Status::Ready(_) => {}
