@@ -43,12 +43,12 @@ enum OrderRefusal {
     /* An entry of the schedule, or of the first of two; position its index. */
     ORDER_REFUSED_NO_ACTOR = 11,  /* it names no actor */
     ORDER_REFUSED_FINISHED = 12,  /* its actor is finished */
-    ORDER_REFUSED_NOT_READY = 13, /* its actor is not ready */
+    ORDER_REFUSED_NOT_READY = 13, /* its actor is not ready: it waits */
 
     /* An entry of the second schedule; position its index. */
     ORDER_REFUSED_SECOND_NO_ACTOR = 14,  /* it names no actor */
     ORDER_REFUSED_SECOND_FINISHED = 15,  /* its actor is finished */
-    ORDER_REFUSED_SECOND_NOT_READY = 16, /* its actor is not ready */
+    ORDER_REFUSED_SECOND_NOT_READY = 16, /* its actor is not ready: it waits */
 
     /* The names of two steps; position 0. */
     ORDER_REFUSED_NO_STEP = 17, /* one of them, or both, is not in the table */
@@ -58,7 +58,13 @@ enum OrderRefusal {
     ORDER_REFUSED_DIFFERENT = 19,  /* the schedules are different: there is none */
 
     /* The page buffer; position 0. */
-    ORDER_REFUSED_PAGE_ROOM = 20 /* it has under ORDER_PAGE_ROOM bytes */
+    ORDER_REFUSED_PAGE_ROOM = 20, /* it has under ORDER_PAGE_ROOM bytes */
+
+    /* An entry, in the place of 13 and of 16 where its actor's next step is an Add whose sum would pass
+     * 4,294,967,295, so that it is never ready; position its index.
+     */
+    ORDER_REFUSED_OVER = 21,       /* of the schedule, or of the first of two */
+    ORDER_REFUSED_SECOND_OVER = 22 /* of the second schedule */
 };
 
 /* The longest table has so many bytes, and the longest accepted schedule so many entries. */
@@ -86,7 +92,7 @@ typedef struct {
 
 /* Runs a schedule, one byte for each entry, from a fresh site and writes the state report of its end into
  * the first bytes of `report`; the bytes after it stay as they were. Refusals, in this order: 10; 1 to 9;
- * 11 to 13.
+ * 11 to 13 and 21.
  */
 OrderRun order_run(const uint8_t *table, size_t table_length, const uint8_t *schedule, size_t schedule_length,
                    uint8_t *report, size_t report_length);
@@ -94,7 +100,7 @@ OrderRun order_run(const uint8_t *table, size_t table_length, const uint8_t *sch
 /* How a state stands. */
 enum OrderEnding {
     ORDER_FINISHED = 0, /* every actor is finished */
-    ORDER_STUCK = 1,    /* not every actor is finished, and none is ready: a deadlock */
+    ORDER_STUCK = 1,    /* not every actor is finished, and none is ready: all that are left wait or run over */
     ORDER_GOING = 2     /* some actor is ready */
 };
 
@@ -109,7 +115,9 @@ typedef struct {
     uint32_t ending;
 } OrderReady;
 
-/* Which actors are ready at the end of a schedule from a fresh site. Refusals, in this order: 1 to 9; 11 to 13. */
+/* Which actors are ready at the end of a schedule from a fresh site. Refusals, in this order: 1 to 9; 11 to 13
+ * and 21.
+ */
 OrderReady order_ready(const uint8_t *table, size_t table_length, const uint8_t *schedule, size_t schedule_length);
 
 /* The bytes that order_page wants lent. No page is longer. */
@@ -123,8 +131,9 @@ typedef struct {
 } OrderPage;
 
 /* Runs a schedule from a fresh site and lays its end state out as a text in the first bytes of `page`: for each
- * actor a line of 101 characters and a line feed, with its number, position, status and cells. No 0 follows it,
- * and the bytes after it stay as they were. Refusals, in this order: 20; 1 to 9; 11 to 13.
+ * actor a line of 101 characters and a line feed, with its number, position, status (`ready`, `waits`, `over` or
+ * `finished`) and cells. No 0 follows it, and the bytes after it stay as they were. Refusals, in this order: 20;
+ * 1 to 9; 11 to 13 and 21.
  */
 OrderPage order_page(const uint8_t *table, size_t table_length, const uint8_t *schedule, size_t schedule_length,
                      uint8_t *page, size_t page_length);
@@ -162,7 +171,7 @@ typedef struct {
 } OrderSame;
 
 /* Whether exchanges of independent neighbours turn the first schedule into the second. Schedules of
- * different lengths are different. Refusals, in this order: 1 to 9; 11 to 13; 14 to 16.
+ * different lengths are different. Refusals, in this order: 1 to 9; 11 to 13 and 21; 14 to 16 and 22.
  */
 OrderSame order_same(const uint8_t *table, size_t table_length, const uint8_t *first, size_t first_length,
                      const uint8_t *second, size_t second_length);
@@ -181,7 +190,8 @@ typedef struct {
 
 /* Writes a route from the first schedule to the second into the first entries of `route`: positions k,
  * each exchanging entries k and k + 1 of what the ones before it left. The entries after it stay as they
- * were. `route_length` counts entries, not bytes. Refusals, in this order: 1 to 9; 11 to 13; 14 to 16; 19; 18.
+ * were. `route_length` counts entries, not bytes. Refusals, in this order: 1 to 9; 11 to 13 and 21; 14 to 16 and 22;
+ * 19; 18.
  */
 OrderRoute order_route(const uint8_t *table, size_t table_length, const uint8_t *first, size_t first_length,
                        const uint8_t *second, size_t second_length, uint16_t *route, size_t route_length);

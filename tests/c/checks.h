@@ -1,5 +1,5 @@
 /* What the parts of the test of the calls from C share: checks that are counted, what a call is lent, and
- * each call refused.
+ * calls accepted and refused.
  */
 #ifndef CHECKS_H
 #define CHECKS_H
@@ -64,10 +64,25 @@ void pair_refused(Lent lent, const uint8_t steps[4], uint32_t number, uint32_t p
 void same_refused(Lent lent, uint32_t number, uint32_t position);
 void route_refused(Lent lent, uint32_t number, uint32_t position);
 
+/* An entry of a schedule of this table refused, by every call: `number` in the only schedule or the first of two,
+ * `second` in the second.
+ */
+void entry_refused(const uint8_t *table, size_t table_length, const uint8_t *schedule, size_t length, uint32_t number,
+                   uint32_t second, uint32_t position);
+
+/* A call accepted with this answer, and the rest of what it was lent as it was. */
+void ready_is(Lent lent, uint32_t mask, uint32_t count, uint32_t ending);
+void page_is(Lent lent, const char *page);
+
+/* Cells of a page that hold 0. */
+#define ZERO "          0"
+#define FOUR ZERO ZERO ZERO ZERO
+
 /* The parts. */
 void tables(void);
 void stepping(void);
 void lines(void);
+void sums(void);
 void verdicts(void);
 void empty_slices(void);
 

@@ -1,11 +1,6 @@
 /* order_page: table A's pages to the byte, in the least room and in more, and refusal 20. */
 #include "checks.h"
 
-#include <string.h>
-
-#define ZERO "          0"
-#define FOUR ZERO ZERO ZERO ZERO
-
 static const uint8_t whole[] = {0, 1, 0, 1}, one[] = {1, 1};
 
 /* The page of a schedule of table A, with so many bytes lent. */
@@ -13,13 +8,7 @@ static void laid(const uint8_t *schedule, size_t length, size_t room, const char
 {
     Lent lent = with(schedule, length, schedule, 0);
     lent.bytes_length = room;
-    OrderPage answer = order_page(lent.table, lent.table_length, lent.first, lent.first_length, lent.bytes,
-                                  lent.bytes_length);
-    expect_number(answer.refusal, ORDER_ACCEPTED, "order_page", "the refusal");
-    expect_number(answer.position, 0, "order_page", "the position");
-    expect_number(answer.length, 204, "order_page", "the page's length");
-    expect(memcmp(lent.bytes, page, 204) == 0, "order_page", "the page is another");
-    expect_kept(&lent, 204, 0, "order_page");
+    page_is(lent, page);
 }
 
 /* Refused for its room, whatever the table and the schedule are. */

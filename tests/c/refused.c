@@ -101,3 +101,20 @@ void route_refused(Lent lent, uint32_t number, uint32_t position)
     expect_route_refused(answer, number, position);
     expect_kept(&lent, 0, 0, "order_route");
 }
+
+void entry_refused(const uint8_t *table, size_t table_length, const uint8_t *schedule, size_t length, uint32_t number,
+                   uint32_t second, uint32_t position)
+{
+    Lent lent = lend(table, table_length, schedule, length, schedule, 0);
+    run_refused(lent, number, position);
+    ready_refused(lent, number, position);
+    page_refused(lent, number, position);
+    /* The first schedule's refusal comes before the second's. */
+    static const uint8_t absent[] = {7};
+    lent = lend(table, table_length, schedule, length, absent, 1);
+    same_refused(lent, number, position);
+    route_refused(lent, number, position);
+    lent = lend(table, table_length, schedule, 0, schedule, length);
+    same_refused(lent, second, position);
+    route_refused(lent, second, position);
+}

@@ -1,4 +1,4 @@
-/* order_run and order_ready, and the refusals of a schedule's entry. */
+/* order_run and order_ready, and the refusals of a schedule's entry but for those of a total. */
 #include "checks.h"
 
 #include <string.h>
@@ -25,33 +25,6 @@ static void runs(void)
     run_refused(lent, ORDER_REFUSED_REPORT_ROOM, 0);
 }
 
-static void readies(Lent lent, uint32_t mask, uint32_t count, uint32_t ending)
-{
-    OrderReady answer = order_ready(lent.table, lent.table_length, lent.first, lent.first_length);
-    expect_number(answer.refusal, ORDER_ACCEPTED, "order_ready", "the refusal");
-    expect_number(answer.position, 0, "order_ready", "the position");
-    expect_number(answer.mask, mask, "order_ready", "the mask");
-    expect_number(answer.count, count, "order_ready", "the count");
-    expect_number(answer.ending, ending, "order_ready", "the ending");
-    expect_kept(&lent, 0, 0, "order_ready");
-}
-
-/* An entry refused `number` in the schedule or the first of two, `second` in the second. */
-static void entry_refused(const uint8_t *schedule, size_t length, uint32_t number, uint32_t second,
-                          uint32_t position)
-{
-    Lent lent = with(schedule, length, schedule, 0);
-    run_refused(lent, number, position);
-    ready_refused(lent, number, position);
-    page_refused(lent, number, position);
-    /* The first schedule's refusal comes before the second's. */
-    static const uint8_t absent[] = {7};
-    same_refused(with(schedule, length, absent, 1), number, position);
-    route_refused(with(schedule, length, absent, 1), number, position);
-    same_refused(with(schedule, 0, schedule, length), second, position);
-    route_refused(with(schedule, 0, schedule, length), second, position);
-}
-
 void stepping(void)
 {
     static const uint8_t one[] = {1, 1};
@@ -63,12 +36,12 @@ void stepping(void)
     };
     runs();
     /* (b), (c), (d) */
-    entry_refused(one, 2, ORDER_REFUSED_NOT_READY, ORDER_REFUSED_SECOND_NOT_READY, 1);
-    entry_refused(done, 3, ORDER_REFUSED_FINISHED, ORDER_REFUSED_SECOND_FINISHED, 2);
-    entry_refused(absent, 1, ORDER_REFUSED_NO_ACTOR, ORDER_REFUSED_SECOND_NO_ACTOR, 0);
+    entry_refused(table_a, TABLE_A, one, 2, ORDER_REFUSED_NOT_READY, ORDER_REFUSED_SECOND_NOT_READY, 1);
+    entry_refused(table_a, TABLE_A, done, 3, ORDER_REFUSED_FINISHED, ORDER_REFUSED_SECOND_FINISHED, 2);
+    entry_refused(table_a, TABLE_A, absent, 1, ORDER_REFUSED_NO_ACTOR, ORDER_REFUSED_SECOND_NO_ACTOR, 0);
     /* (e), (f) */
-    readies(with(one, 0, one, 0), 3, 2, ORDER_GOING);
-    readies(with(one, 1, one, 0), 1, 1, ORDER_GOING);
-    readies(with(whole, 4, whole, 0), 0, 0, ORDER_FINISHED);
-    readies(lend(waits, sizeof waits, waits, 0, waits, 0), 0, 0, ORDER_STUCK);
+    ready_is(with(one, 0, one, 0), 3, 2, ORDER_GOING);
+    ready_is(with(one, 1, one, 0), 1, 1, ORDER_GOING);
+    ready_is(with(whole, 4, whole, 0), 0, 0, ORDER_FINISHED);
+    ready_is(lend(waits, sizeof waits, waits, 0, waits, 0), 0, 0, ORDER_STUCK);
 }

@@ -5,7 +5,7 @@
 //! command line and gives an [`Answer`] or a [`Failure`]. What several of them say has a module here:
 //!
 //! - [`words`]: a step in words, [`rule`]: why two steps are dependent, [`waits`]: what a step waits
-//!   for, [`posts`]: what became of a Send or a Receive;
+//!   for, [`over`]: why an Add runs over, [`posts`]: what became of a Send or a Receive;
 //! - [`names`]: the steps that a schedule runs, [`state`]: where it leads to, [`difference`]: how two
 //!   of them differ;
 //! - [`refusals`]: what a refusal points at.
@@ -21,6 +21,7 @@ pub mod given;
 pub mod help;
 pub mod names;
 pub mod operand;
+pub mod over;
 pub mod posts;
 pub mod refusals;
 pub mod rule;

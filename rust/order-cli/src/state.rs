@@ -2,10 +2,11 @@
 
 use crate::posts::{met, waiting};
 use crate::table::Table;
-use crate::waits::reason;
 use crate::words::{count, joined, spaced, step};
+use crate::{over, waits};
 use order_engine::report::{Actor, Mailbox, Mutex};
 use order_engine::{Ending, Ready, Refusal, Report, StepName, ready, run};
+use tables::{Kind, action};
 
 /// The state that a schedule leads to.
 pub struct State<'a> {
@@ -25,6 +26,8 @@ pub enum Status {
     Ready(StepName),
     /// It cannot yet run this step, and why.
     Waits(StepName, String),
+    /// It can never run this step, an Add, and why.
+    Over(StepName, String),
 }
 
 impl<'a> State<'a> {
@@ -40,12 +43,16 @@ impl<'a> State<'a> {
     /// How the actor stands.
     pub fn status(&self, actor: &Actor) -> Status {
         let next = StepName::new(actor.number, actor.position);
-        if usize::from(actor.position) == self.actions(actor.number) {
-            Status::Finished
-        } else if self.ready.actors().any(|ready| ready == actor.number) {
-            Status::Ready(next)
-        } else {
-            Status::Waits(next, reason(self.table, &self.report, next))
+        let Some(action) = self.table.layout.action(next.actor, next.action) else {
+            return Status::Finished;
+        };
+        if self.ready.actors().any(|ready| ready == actor.number) {
+            return Status::Ready(next);
+        }
+        // An Add is not ready only where it runs over.
+        match action::kind(action) {
+            Some(Kind::Add) => Status::Over(next, over::reason(actor, action)),
+            _ => Status::Waits(next, waits::reason(self.table, &self.report, next)),
         }
     }
 
@@ -65,14 +72,36 @@ impl<'a> State<'a> {
     pub fn ending(&self) -> String {
         match self.ready.ending {
             Ending::Finished => "finished: every actor has run all its actions".to_owned(),
-            Ending::Stuck => {
-                "stuck: a deadlock, no actor is ready and not all are finished".to_owned()
-            }
+            Ending::Stuck => self.stuck(),
             Ending::Going => {
                 let ready = count(self.ready.count as usize, "actor is", "actors are");
                 format!("going: {ready} ready")
             }
         }
+    }
+
+    /// That nobody is ready; where a total runs over, who waits and who is over.
+    fn stuck(&self) -> String {
+        let (mut waits, mut over) = (Vec::new(), Vec::new());
+        for actor in self.report.actors() {
+            match self.status(&actor) {
+                Status::Waits(..) => waits.push(actor.number),
+                Status::Over(..) => over.push(actor.number),
+                Status::Finished | Status::Ready(_) => {}
+            }
+        }
+        if over.is_empty() {
+            return "stuck: a deadlock, no actor is ready and not all are finished".to_owned();
+        }
+        let said = [(waits, "waits", "wait"), (over, "is over", "are over")];
+        let said = said
+            .iter()
+            .filter_map(|(actors, one, several)| match &actors[..] {
+                [] => None,
+                [actor] => Some(format!("actor {actor} {one}")),
+                actors => Some(format!("actors {} {several}", joined(actors))),
+            });
+        format!("stuck: no actor is ready; {}", joined(said))
     }
 
     /// The ready answer's mask, and whose bits are set in it.
@@ -100,6 +129,9 @@ impl<'a> State<'a> {
             Status::Ready(next) => format!("next {}, ready", step(&self.table.layout, next)),
             Status::Waits(next, why) => {
                 format!("next {}, waits: {why}", step(&self.table.layout, next))
+            }
+            Status::Over(next, why) => {
+                format!("next {}, over: {why}", step(&self.table.layout, next))
             }
         };
         let cells = spaced(cells);

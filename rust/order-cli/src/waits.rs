@@ -1,4 +1,4 @@
-//! What a step that is not ready waits for.
+//! What a step that is not ready waits for; an Add waits for nothing, see [`crate::over`].
 
 use crate::posts::stage;
 use crate::table::Table;

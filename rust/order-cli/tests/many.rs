@@ -1,14 +1,17 @@
 //! Over many tables: the text form gives the same bytes, what the command says of a pair of steps is
-//! what the engine's verdict is, different schedules are told apart, and so are different states.
+//! what the engine's verdict is, different schedules are told apart, and so are different states; an
+//! actor stands as the engine's page says.
 
 use compare::inputs::rng::Rng;
 use compare::inputs::sample::{Sample, Shape};
+use compare::inputs::totals;
 use order_cli::difference::{Pairs, difference};
 use order_cli::names::names;
 use order_cli::rule::rule;
-use order_cli::state::State;
+use order_cli::state::{State, Status};
 use order_cli::table::Table;
-use order_engine::{PairVerdict, REPORT_ROOM, StepName, check, pair, ready, same};
+use order_engine::{PAGE_ROOM, PairVerdict, REPORT_ROOM, StepName};
+use order_engine::{check, page, pair, ready, same};
 use std::collections::{HashMap, HashSet};
 use tables::action::{kind, list};
 use tables::layout::MOST_ACTIONS;
@@ -198,4 +201,33 @@ fn different_states_have_different_words() {
         }
     }
     assert!(alike > 100 && by_pairs > 0, "{alike} {by_pairs}");
+}
+
+#[test]
+fn an_actor_stands_as_the_page_says() {
+    let mut rng = Rng::new(5);
+    let mut met: HashMap<&str, usize> = HashMap::new();
+    for _ in 0..1_000 {
+        let shape = Shape::any(&mut rng);
+        let sample = totals::table(&mut rng, shape);
+        let table = Table::of(&sample.bytes).expect("an accepted table");
+        let most = rng.below(100);
+        let schedule = walk(&mut rng, &table.bytes, most);
+        let (mut buffer, mut laid) = ([0; REPORT_ROOM], [0; PAGE_ROOM]);
+        let state = State::after(&table, &schedule, &mut buffer).expect("an accepted one");
+        let page = page(&table.bytes, &schedule, &mut laid).expect("an accepted one");
+        assert_eq!(state.report.actors().count(), page.lines().count());
+        for (actor, line) in state.report.actors().zip(page.lines()) {
+            let word = match state.status(&actor) {
+                Status::Finished => "finished",
+                Status::Ready(_) => "ready",
+                Status::Waits(..) => "waits",
+                Status::Over(..) => "over",
+            };
+            assert_eq!(line[5..13].trim_end(), word, "{page}");
+            *met.entry(word).or_default() += 1;
+        }
+    }
+    assert_eq!(met.len(), 4);
+    assert!(met.values().all(|&times| times > 100), "{met:?}");
 }

@@ -18,10 +18,10 @@ unsafe extern "C" {
 pub const PAGE_ROOM: usize = 816;
 
 /// Steps `schedule` from a fresh site and lays the state it leads to out in `buffer`, which must have
-/// at least [`PAGE_ROOM`] bytes: a line for each actor, with its number, position, status and cells.
-/// Answers with the page; bytes after it keep what they held.
+/// at least [`PAGE_ROOM`] bytes: a line for each actor, with its number, position, status (`ready`,
+/// `waits`, `over` or `finished`) and cells. Answers with the page; bytes after it keep what they held.
 ///
-/// Refusals: 20, then 1 to 9, then 11 to 13. A refused call writes nothing.
+/// Refusals: 20, then 1 to 9, then 11 to 13 and 21. A refused call writes nothing.
 ///
 /// ```
 /// // One actor that sets cell 0 to 7.

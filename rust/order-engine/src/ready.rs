@@ -17,7 +17,8 @@ unsafe extern "C" {
 pub enum Ending {
     /// Every actor is finished.
     Finished,
-    /// Not every actor is finished, and none is ready: a deadlock.
+    /// Not every actor is finished, and none is ready: each that is left waits, or has an Add next that
+    /// would run over.
     Stuck,
     /// Some actor is ready.
     Going,
@@ -44,7 +45,7 @@ impl Ready {
 
 /// Steps `schedule` from a fresh site and tells who is ready in the state it leads to.
 ///
-/// Refusals: 1 to 9, then 11 to 13.
+/// Refusals: 1 to 9, then 11 to 13 and 21.
 pub fn ready(table: &[u8], schedule: &[u8]) -> Result<Ready, Refusal> {
     let [mask, count, ending] = fields(table, schedule).accepted()?;
     let ending = match ending {

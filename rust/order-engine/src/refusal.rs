@@ -48,6 +48,8 @@ reasons! {
     18 RouteRoom "the route buffer is too small";
     19 Different "the schedules are not the same, so that no route joins them";
     20 PageRoom "the page buffer is too small";
+    21 Over "the schedule's entry names an actor whose Add would pass 4294967295";
+    22 SecondOver "the second schedule's entry names an actor whose Add would pass 4294967295";
 }
 
 impl Reason {
@@ -99,7 +101,7 @@ impl Refusal {
     }
 
     /// Where it arose: for refusals of an action (6 to 9) its offset in the table, for refusals of a
-    /// schedule's entry (11 to 16) its index, otherwise 0.
+    /// schedule's entry (11 to 16, 21, 22) its index, otherwise 0.
     pub const fn position(&self) -> u32 {
         self.position
     }

@@ -22,7 +22,7 @@ pub const REPORT_ROOM: usize = 2_912;
 /// which must have at least [`REPORT_ROOM`] bytes. Answers with a view of the report; bytes after it
 /// keep what they held.
 ///
-/// Refusals: 10, then 1 to 9, then 11 to 13. A refused run writes nothing.
+/// Refusals: 10, then 1 to 9, then 11 to 13 and 21. A refused run writes nothing.
 pub fn run<'a>(table: &[u8], schedule: &[u8], buffer: &'a mut [u8]) -> Result<Report<'a>, Refusal> {
     let [length] = fields(table, schedule, buffer).accepted()?;
     Ok(Report::of_run(table, &buffer[..length as usize]))

@@ -40,7 +40,7 @@ impl Same {
 
 /// Whether exchanges of independent neighbours turn schedule `first` into `second`.
 ///
-/// Refusals: 1 to 9, then 11 to 13 for the first schedule, then 14 to 16 for the second.
+/// Refusals: 1 to 9, then 11 to 13 and 21 for the first schedule, then 14 to 16 and 22 for the second.
 pub fn same(table: &[u8], first: &[u8], second: &[u8]) -> Result<Same, Refusal> {
     let [verdict] = fields(table, first, second).accepted()?;
     let verdict = match verdict {

@@ -32,7 +32,7 @@ impl List {
 pub enum Action {
     /// `cell` becomes `value`.
     Set { cell: u8, value: u32 },
-    /// `cell` becomes its sum with `other`, modulo 2^32.
+    /// `cell` becomes its sum with `other`, which must not pass 4,294,967,295.
     Add { cell: u8, other: u8 },
     /// `cell` becomes the smaller of itself and `other`.
     Lesser { cell: u8, other: u8 },

@@ -20,9 +20,9 @@ impl Actor {
         self.cells[usize::from(cell)] = value;
     }
 
-    /// Add: `cell` becomes its sum with `other`, modulo 2^32.
-    pub fn add(&mut self, cell: u8, other: u8) {
-        self.set(cell, self.cell(cell).wrapping_add(self.cell(other)));
+    /// Add: the sum of `cell` and `other`; none where it passes 4,294,967,295.
+    pub fn sum(&self, cell: u8, other: u8) -> Option<u32> {
+        self.cell(cell).checked_add(self.cell(other))
     }
 
     /// Lesser: `cell` becomes the smaller of itself and `other`, unsigned.

@@ -1,7 +1,8 @@
-//! Stepping along a schedule: refusals 11 to 13, or 14 to 16 for a second schedule.
+//! Stepping along a schedule: refusals 11 to 13 and 21, or 14 to 16 and 22 for a second schedule.
 
 use crate::action::Action;
 use crate::name::Name;
+use crate::next::Next;
 use crate::refusal::{Reason, Refusal};
 use crate::site::Site;
 use crate::table::Table;
@@ -16,8 +17,8 @@ pub enum Schedule {
 }
 
 impl Schedule {
-    /// The refusals for no such actor, a finished one and one that is not ready.
-    fn reasons(self) -> [Reason; 3] {
+    /// The refusals for no such actor, a finished one, one that waits and one whose Add runs over.
+    fn reasons(self) -> [Reason; 4] {
         match self {
             Self::First => Reason::OF_FIRST,
             Self::Second => Reason::OF_SECOND,
@@ -35,7 +36,7 @@ pub fn follow(
     mut visit: impl FnMut(Name, &Action),
 ) -> Result<(), Refusal> {
     let scripts = table.scripts();
-    let [no_actor, finished, not_ready] = which.reasons();
+    let [no_actor, finished, not_ready, over] = which.reasons();
     for (index, &entry) in entries.iter().enumerate() {
         let refused = |reason| Err(Refusal::new(reason, index as u32));
         let actor = usize::from(entry);
@@ -47,8 +48,10 @@ pub fn follow(
             return refused(finished);
         };
         let action = Action::decode(bytes);
-        if !site.step(actor, &action) {
-            return refused(not_ready);
+        match site.step(actor, &action) {
+            Next::Taken { .. } => {}
+            Next::Waits => return refused(not_ready),
+            Next::Over => return refused(over),
         }
         visit(Name::new(actor, position), &action);
     }

@@ -9,8 +9,8 @@
 //! - [`table`]: a table that the reader accepted;
 //! - [`name`]: a step's name;
 //! - [`actor`], [`communication`], [`mailbox`], [`mutex`]: the parts of a site's state;
-//! - [`site`]: the state and its steps;
-//! - [`mod@follow`]: stepping along a schedule, refusals 11 to 16;
+//! - [`next`], [`site`]: what an actor's next step is, and the state and its steps;
+//! - [`mod@follow`]: stepping along a schedule, refusals 11 to 16, 21 and 22;
 //! - [`status`], [`mod@ready`]: how an actor stands, and the ready answer;
 //! - [`report`], [`mod@run`], [`mod@page`]: the state report, the run and the page;
 //! - [`mod@pair`]: the pair verdict, by its four cases;
@@ -32,7 +32,8 @@
 //! Stepping follows the same sentences in much the same way: names in a mailbox are written one after
 //! the other and never moved, a mutex's queue is an array and a length, a test goes through its list.
 //! The route pulls each entry to its place in turn, as the proved one does. Decided by another way:
-//! the reader's forms (masks over an action's bytes), the page (Rust's own formatting), dependence (the
+//! the reader's forms (masks over an action's bytes), an Add's sum (made and found too large, not
+//! compared beforehand), the page (Rust's own formatting), dependence (the
 //! four cases as the document has them, without a table of codes), and the same verdict (normal forms;
 //! on short schedules also a search through all chains). [`quick`], which is measured and not compared,
 //! works as the proved engine does.
@@ -47,6 +48,7 @@ pub mod footprint;
 pub mod mailbox;
 pub mod mutex;
 pub mod name;
+pub mod next;
 pub mod page;
 pub mod pair;
 pub mod quick;
@@ -67,6 +69,7 @@ pub mod trace;
 pub use action::{Action, List};
 pub use follow::{Schedule, follow};
 pub use name::Name;
+pub use next::Next;
 pub use page::{PAGE_ROOM, page};
 pub use pair::pair;
 pub use reader::{check, validate};

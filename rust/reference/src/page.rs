@@ -12,7 +12,7 @@ use std::io::{self, Write};
 pub const PAGE_ROOM: usize = 816;
 
 /// Lays out the state that a schedule leads to, and gives the page's length: refusal 20, then 1 to 9,
-/// then 11 to 13. A refusal writes nothing.
+/// then 11 to 13 and 21. A refusal writes nothing.
 pub fn page(table: &[u8], schedule: &[u8], buffer: &mut [u8]) -> Result<usize, Refusal> {
     laid(table, schedule, buffer, |table, site, mut rest| {
         let lent = rest.len();

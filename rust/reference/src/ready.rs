@@ -54,7 +54,8 @@ impl Ready {
     }
 }
 
-/// The ready answer for the state that a schedule leads to: refusals 1 to 9, then 11 to 13.
+/// The ready answer for the state that a schedule leads to: refusals 1 to 9, then 11 to
+/// 13 and 21.
 pub fn ready(table: &[u8], schedule: &[u8]) -> Result<Ready, Refusal> {
     let table = check(table)?;
     let mut site = Site::fresh();

@@ -44,13 +44,13 @@ reasons! {
     11 NoActor;
     /// An entry of the (first) schedule names a finished actor.
     12 Finished;
-    /// An entry of the (first) schedule names an actor that is not ready.
+    /// An entry of the (first) schedule names an actor that is not ready: it waits.
     13 NotReady;
     /// An entry of the second schedule names no actor.
     14 SecondNoActor;
     /// An entry of the second schedule names a finished actor.
     15 SecondFinished;
-    /// An entry of the second schedule names an actor that is not ready.
+    /// An entry of the second schedule names an actor that is not ready: it waits.
     16 SecondNotReady;
     /// A step's name is not in the table.
     17 NoStep;
@@ -60,6 +60,10 @@ reasons! {
     19 Different;
     /// The page buffer has under 816 bytes.
     20 PageRoom;
+    /// An entry of the (first) schedule names an actor whose Add would pass 4,294,967,295.
+    21 Over;
+    /// An entry of the second schedule names an actor whose Add would pass 4,294,967,295.
+    22 SecondOver;
 }
 
 impl Reason {
@@ -77,13 +81,14 @@ impl Reason {
     ];
 
     /// The reasons to refuse an entry of the only schedule, or of the first of two.
-    pub const OF_FIRST: [Self; 3] = [Self::NoActor, Self::Finished, Self::NotReady];
+    pub const OF_FIRST: [Self; 4] = [Self::NoActor, Self::Finished, Self::NotReady, Self::Over];
 
     /// The reasons to refuse an entry of the second schedule.
-    pub const OF_SECOND: [Self; 3] = [
+    pub const OF_SECOND: [Self; 4] = [
         Self::SecondNoActor,
         Self::SecondFinished,
         Self::SecondNotReady,
+        Self::SecondOver,
     ];
 
     /// The documents' number.

@@ -7,7 +7,7 @@ use crate::report::{self, REPORT_ROOM};
 use crate::site::Site;
 
 /// Writes the report of the state that a schedule leads to, and gives its length: refusal 10, then
-/// 1 to 9, then 11 to 13. A refusal writes nothing.
+/// 1 to 9, then 11 to 13 and 21. A refusal writes nothing.
 pub fn run(table: &[u8], schedule: &[u8], buffer: &mut [u8]) -> Result<usize, Refusal> {
     if buffer.len() < REPORT_ROOM {
         return Err(Refusal::new(Reason::ReportRoom, 0));

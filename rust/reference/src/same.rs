@@ -9,8 +9,8 @@ use crate::refusal::Refusal;
 use crate::table::Table;
 use crate::trace::Trace;
 
-/// Whether two accepted schedules are the same: refusals 1 to 9, then 11 to 13 for the first, then
-/// 14 to 16 for the second.
+/// Whether two accepted schedules are the same: refusals 1 to 9, then 11 to 13 and 21 for the
+/// first, then 14 to 16 and 22 for the second.
 pub fn same(table: &[u8], first: &[u8], second: &[u8]) -> Result<bool, Refusal> {
     let table = check(table)?;
     let (first, second) = traces(&table, first, second)?;

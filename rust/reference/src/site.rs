@@ -6,6 +6,7 @@ use crate::communication::{Communication, Stage};
 use crate::mailbox::{Mailbox, Side};
 use crate::mutex::Mutex;
 use crate::name::Name;
+use crate::next::Next;
 
 /// All that steps change. Holds room for the largest table.
 #[derive(Clone, Debug)]
@@ -48,75 +49,60 @@ impl Site {
         self.mutexes[mutex].queue()
     }
 
-    /// Whether `action` is ready, were it the next of `actor`.
-    pub fn ready(&self, actor: usize, action: &Action) -> bool {
+    /// What `action` is as the next of `actor`.
+    #[inline(always)]
+    pub fn next(&self, actor: usize, action: &Action) -> Next {
         match action {
-            Action::WaitAny { actions, .. } => self.done_place(actor, actions) > 0,
-            Action::MutexWait { mutexes, .. } => self.owned_place(actor, mutexes) > 0,
-            Action::Set { .. } | Action::Add { .. } | Action::Lesser { .. } => true,
-            Action::Send { .. } | Action::Receive { .. } | Action::TestAny { .. } => true,
-            Action::Lock { .. } | Action::Unlock { .. } | Action::MutexTest { .. } => true,
+            Action::Add { cell, other } => Next::of_sum(self.actors[actor].sum(*cell, *other)),
+            Action::TestAny { actions, .. } => Next::finding(self.done_place(actor, actions)),
+            Action::WaitAny { actions, .. } => Next::at_place(self.done_place(actor, actions)),
+            Action::MutexTest { mutexes, .. } => Next::finding(self.owned_place(actor, mutexes)),
+            Action::MutexWait { mutexes, .. } => Next::at_place(self.owned_place(actor, mutexes)),
+            Action::Set { .. } | Action::Lesser { .. } => Next::finding(0),
+            Action::Send { .. } | Action::Receive { .. } => Next::finding(0),
+            Action::Lock { .. } | Action::Unlock { .. } => Next::finding(0),
         }
     }
 
-    /// Runs `action`, the next of `actor`. False, and nothing changed, where it is not ready.
+    /// Runs `action`, the next of `actor`, and says what it was. Nothing changes unless it is taken.
     #[inline(always)]
-    pub fn step(&mut self, actor: usize, action: &Action) -> bool {
+    pub fn step(&mut self, actor: usize, action: &Action) -> Next {
+        let next = self.next(actor, action);
+        let Next::Taken { finds } = next else {
+            return next;
+        };
         match *action {
             Action::Set { cell, value } => self.actors[actor].set(cell, value),
-            Action::Add { cell, other } => self.actors[actor].add(cell, other),
+            Action::Add { cell, .. } => self.actors[actor].set(cell, finds),
             Action::Lesser { cell, other } => self.actors[actor].lesser(cell, other),
             Action::Send { mailbox, cell } => self.send(actor, mailbox, cell),
             Action::Receive { mailbox, cell } => self.receive(actor, mailbox, cell),
             Action::TestAny {
                 result,
                 ref actions,
-            } => {
-                let place = self.done_place(actor, actions);
-                self.pick_up(actor, result, actions, place);
             }
-            Action::WaitAny {
+            | Action::WaitAny {
                 result,
                 ref actions,
-            } => {
-                let place = self.done_place(actor, actions);
-                if place == 0 {
-                    return false;
-                }
-                self.pick_up(actor, result, actions, place);
-            }
+            } => self.pick_up(actor, result, actions, finds),
             Action::Lock { mutex } => self.mutexes[usize::from(mutex)].join(actor),
             Action::Unlock { mutex } => self.mutexes[usize::from(mutex)].leave(actor),
-            Action::MutexTest {
-                result,
-                ref mutexes,
-            } => {
-                let place = self.owned_place(actor, mutexes);
-                self.actors[actor].set(result, place as u32);
-            }
-            Action::MutexWait {
-                result,
-                ref mutexes,
-            } => {
-                let place = self.owned_place(actor, mutexes);
-                if place == 0 {
-                    return false;
-                }
-                self.actors[actor].set(result, place as u32);
+            Action::MutexTest { result, .. } | Action::MutexWait { result, .. } => {
+                self.actors[actor].set(result, finds);
             }
         }
         self.actors[actor].position += 1;
-        true
+        next
     }
 
     /// The name of the next step of `actor`.
-    fn next(&self, actor: usize) -> Name {
+    fn name(&self, actor: usize) -> Name {
         Name::new(actor, self.actors[actor].position)
     }
 
     /// Keeps the cell's value, and pairs with the oldest pending Receive or joins the queue.
     fn send(&mut self, actor: usize, mailbox: u8, cell: u8) {
-        let own = self.next(actor);
+        let own = self.name(actor);
         let value = self.actors[actor].cell(cell);
         let mut communication = Communication::send(value);
         if let Some(other) = self.mailboxes[usize::from(mailbox)].meet(Side::Send, own) {
@@ -129,7 +115,7 @@ impl Site {
 
     /// Pairs with the oldest pending Send, or joins the queue.
     fn receive(&mut self, actor: usize, mailbox: u8, cell: u8) {
-        let own = self.next(actor);
+        let own = self.name(actor);
         let mut communication = Communication::receive(cell);
         if let Some(other) = self.mailboxes[usize::from(mailbox)].meet(Side::Receive, own) {
             let sent = &mut self.communications[other.index()];
@@ -154,16 +140,16 @@ impl Site {
     }
 
     /// Writes the value of the Receive at `place`, if it is one, then `place`.
-    fn pick_up(&mut self, actor: usize, result: u8, actions: &List, place: usize) {
+    fn pick_up(&mut self, actor: usize, result: u8, actions: &List, place: u32) {
         let record = &mut self.actors[actor];
         if place > 0 {
-            let number = actions.numbers()[place - 1];
+            let number = actions.numbers()[place as usize - 1];
             let name = Name::new(actor, usize::from(number));
             let communication = &self.communications[name.index()];
             if let Some(cell) = communication.cell() {
                 record.set(cell, communication.value);
             }
         }
-        record.set(result, place as u32);
+        record.set(result, place);
     }
 }

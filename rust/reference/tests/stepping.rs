@@ -24,13 +24,20 @@ fn reported(table: &[u8], schedule: &[u8], actor: usize, action: usize) -> [u8; 
 
 #[test]
 fn local_steps() {
-    let full = [0, 1, 0, 0, 255, 255, 255, 255];
-    let table = table(&[&[set(0, 3), full, add(0, 1), lesser(1, 0), add(1, 1)]]);
+    let large = [0, 1, 0, 0, 252, 255, 255, 255];
+    let table = table(&[&[
+        set(0, 3),
+        large,
+        add(0, 1),
+        lesser(0, 1),
+        set(1, 2),
+        add(1, 1),
+    ]]);
     let after = |steps: usize| cells(&table, &vec![0; steps], 0)[..2].to_vec();
-    assert_eq!(after(2), [3, u32::MAX]);
-    assert_eq!(after(3), [2, u32::MAX]);
-    assert_eq!(after(4), [2, 2]);
-    assert_eq!(after(5), [2, 4]);
+    assert_eq!(after(2), [3, u32::MAX - 3]);
+    assert_eq!(after(3), [u32::MAX, u32::MAX - 3]);
+    assert_eq!(after(4), [u32::MAX - 3, u32::MAX - 3]);
+    assert_eq!(after(6), [u32::MAX - 3, 4]);
 }
 
 #[test]

@@ -1,4 +1,7 @@
-//! The calls, a module for each: how its two engines are compared, and what is measured of it.
+//! The calls, a module for each: how its two engines are compared, and what is measured of it. Those that
+//! step schedules share [`totals`].
+
+pub mod totals;
 
 use crate::harness::call::Call;
 use crate::workload::{Load, Measure};

@@ -9,7 +9,7 @@ use crate::inputs::families::FAMILIES;
 use crate::inputs::rng::Rng;
 use crate::workload::{Load, Measure};
 use order_engine::{PairVerdict, StepName};
-use reference::Reason;
+use reference::{Reason, validate};
 use tables::{Kind, Layout, action};
 
 /// The pair verdict.
@@ -71,9 +71,9 @@ fn steps_of(numbers: [u32; NUMBERS]) -> [StepName; 2] {
     [StepName::new(a, k), StepName::new(b, l)]
 }
 
-/// Two steps, mostly of the table before.
+/// Two steps, mostly of the table before; of one that is refused, once.
 fn next(rng: &mut Rng, input: &mut Input) {
-    if input.read[0].is_empty() || rng.once_in(PAIRS) {
+    if validate(&input.read[0]).is_err() || rng.once_in(PAIRS) {
         input.read[0] = made(rng);
     }
     let names = steps(rng, &input.read[0]).map(|step| [step.actor, step.action]);
@@ -82,7 +82,7 @@ fn next(rng: &mut Rng, input: &mut Input) {
 
 /// A table: mostly right, and contended.
 fn made(rng: &mut Rng) -> Vec<u8> {
-    if rng.once_in(16) {
+    if rng.once_in(4) {
         let family = rng.pick(&FAMILIES);
         return family(rng);
     }

@@ -1,9 +1,10 @@
 //! The exchange route. Which chain is taken is free, so that the proved engine's is replayed by the
 //! reference; refusals must agree.
 
+use crate::calls::totals;
 use crate::harness::answer::Answer;
 use crate::harness::asked::Asked;
-use crate::harness::call::{Call, no_sweep};
+use crate::harness::call::Call;
 use crate::harness::slots::{Buffer, FIRST, Input, Lent, SECOND, Slots, TABLE};
 use crate::harness::tally::Tally;
 use crate::inputs::buffers;
@@ -31,7 +32,7 @@ pub const CALL: Call = Call {
     ],
     cases: 130_000,
     next,
-    sweep: no_sweep,
+    sweep: totals::sweep_two,
     engine: |lent| {
         let [table, first, second] = lent.read;
         order_engine::route::fields(table, first, second, lent.entries).into()
@@ -47,7 +48,7 @@ pub const CALL: Call = Call {
         let refused = |reason| tally.refused(reason);
         let pairs =
             tally.accepted() + refused(Reason::RouteRoom) + refused(Reason::Different);
-        demands
+        totals::demands(demands, &[Reason::Over, Reason::SecondOver], 100)
             .least("pairs of schedules", pairs, 100_000)
             .accepted(25_000)
             .refused(&Reason::OF_TABLE, 100)
@@ -124,6 +125,7 @@ fn wrong(asked: &Asked, length: usize) -> Option<String> {
 }
 
 fn note(tally: &mut Tally, asked: &Asked) {
+    totals::note(tally, asked);
     let lent = asked.input.entries.len();
     if asked.accepted() {
         let (ours, least) = (asked.engine.values[0], asked.reference.values[0]);

@@ -40,10 +40,13 @@ impl<'a> Demands<'a> {
         self
     }
 
-    /// So many of each of these refusals at the first, at middle and at the last entries.
+    /// So many of each of these refusals at the first, at middle and at the last entries. No total runs
+    /// over at the first: all cells are 0 before it.
     pub fn places(mut self, reasons: &[Reason], least: u64) -> Self {
         for &reason in reasons {
-            for (place, hits) in PLACES.iter().zip(self.tally.places(reason)) {
+            let over = matches!(reason, Reason::Over | Reason::SecondOver);
+            let places = PLACES.iter().zip(self.tally.places(reason));
+            for (place, hits) in places.skip(usize::from(over)) {
                 let what = format!("{}, {place} entry", refused(reason));
                 self = self.least(&what, hits, least);
             }

@@ -3,6 +3,7 @@
 use crate::inputs::mix::Mix;
 use crate::inputs::rng::Rng;
 use crate::inputs::sample::{Sample, Script, Shape};
+use crate::inputs::totals;
 use reference::{Action, Site};
 use tables::action;
 
@@ -74,6 +75,9 @@ fn few(rng: &mut Rng) -> u8 {
 /// A table of a size, and a schedule that runs it to its end if it was made along one.
 pub fn table(rng: &mut Rng, size: Size) -> (Sample, Option<Vec<u8>>) {
     let shape = size.shape(rng);
+    if rng.once_in(8) {
+        return (totals::table(rng, shape), None);
+    }
     let mix = rng.pick(&Mix::ALL);
     if rng.once_in(2) {
         let (sample, schedule) = grown(rng, shape, &mix);
@@ -83,7 +87,7 @@ pub fn table(rng: &mut Rng, size: Size) -> (Sample, Option<Vec<u8>>) {
 }
 
 /// A table made step by step along a schedule, which it so accepts: every action is drawn where the
-/// schedule comes to it, a wait only where it is ready.
+/// schedule comes to it, a wait or an Add only where it is ready.
 pub fn grown(rng: &mut Rng, shape: Shape, mix: &Mix) -> (Sample, Vec<u8>) {
     let mut scripts = vec![Script::default(); shape.counts.len()];
     let mut left = shape.counts.clone();
@@ -96,7 +100,7 @@ pub fn grown(rng: &mut Rng, shape: Shape, mix: &Mix) -> (Sample, Vec<u8>) {
         }
         let actor = rng.pick(&open);
         let action = ready_action(rng, &shape, mix, &scripts[actor], &site, actor);
-        assert!(site.step(actor, &Action::decode(action)));
+        assert!(site.step(actor, &Action::decode(action)).is_taken());
         scripts[actor].push(action);
         left[actor] -= 1;
         schedule.push(actor as u8);
@@ -114,7 +118,7 @@ fn ready_action(
 ) -> tables::Action {
     for _ in 0..20 {
         let action = script.draw(rng, shape, mix);
-        if site.ready(actor, &Action::decode(action)) {
+        if site.next(actor, &Action::decode(action)).is_taken() {
             return action;
         }
     }

@@ -2,7 +2,7 @@
 
 use crate::inputs::rng::Rng;
 use crate::inputs::walk::Walk;
-use reference::Table;
+use reference::{Status, Table};
 
 /// Why an entry is refused.
 #[derive(Clone, Copy, PartialEq, Eq, Debug)]
@@ -11,12 +11,19 @@ pub enum Fault {
     NoActor,
     /// A finished actor.
     Finished,
-    /// An actor that is not ready.
+    /// An actor that waits.
     NotReady,
+    /// An actor whose Add runs over. None is at the first entry.
+    Over,
 }
 
-/// The three of them.
-pub const FAULTS: [Fault; 3] = [Fault::NoActor, Fault::Finished, Fault::NotReady];
+/// The four of them.
+const FAULTS: [Fault; 4] = [
+    Fault::NoActor,
+    Fault::Finished,
+    Fault::NotReady,
+    Fault::Over,
+];
 
 /// Where the refused entry stands.
 #[derive(Clone, Copy, PartialEq, Eq, Debug)]
@@ -30,7 +37,15 @@ pub enum Place {
 }
 
 /// The three of them.
-pub const PLACES: [Place; 3] = [Place::First, Place::Middle, Place::Last];
+const PLACES: [Place; 3] = [Place::First, Place::Middle, Place::Last];
+
+/// A fault, and a place where it can stand.
+pub fn fault(rng: &mut Rng) -> (Fault, Place) {
+    match rng.pick(&FAULTS) {
+        Fault::Over => (Fault::Over, rng.pick(&PLACES[1..])),
+        fault => (fault, rng.pick(&PLACES)),
+    }
+}
 
 /// A schedule with a refused entry, made from the accepted one. None where no state along it has a
 /// `fault` at such a place.
@@ -67,17 +82,18 @@ pub fn spoilt(
 /// An entry that is refused for `fault` in the walk's state, if there is one.
 fn entry(rng: &mut Rng, table: &Table, walk: &Walk, fault: Fault) -> Option<u8> {
     let actors = table.actors();
-    if fault == Fault::NoActor {
-        let first = actors as u8;
-        let known = rng.below(actors) as u8;
-        // The low bits of some name an actor that exists.
-        return Some(rng.pick(&[first, first, 8, 255, known + 8, known + 128, known + 32]));
-    }
-    let ready = walk.ready();
-    let fits = |&actor: &usize| match fault {
-        Fault::Finished => walk.finished(actor),
-        _ => !walk.finished(actor) && ready >> actor & 1 == 0,
+    let status = match fault {
+        Fault::NoActor => {
+            let first = actors as u8;
+            let known = rng.below(actors) as u8;
+            // The low bits of some name an actor that exists.
+            return Some(rng.pick(&[first, first, 8, 255, known + 8, known + 128, known + 32]));
+        }
+        Fault::Finished => Status::Finished,
+        Fault::NotReady => Status::Waits,
+        Fault::Over => Status::Over,
     };
+    let fits = |&actor: &usize| walk.status(actor) == status;
     let open: Vec<usize> = (0..actors).filter(fits).collect();
     (!open.is_empty()).then(|| rng.pick(&open) as u8)
 }

@@ -7,7 +7,8 @@
 //!   schedules with a refused entry;
 //! - [`interleave`]: from one schedule to another with the same steps;
 //! - [`steps`], [`twins`]: tables with one schedule or with two; [`deep`]: those with full queues;
-//!   [`digits`]: those whose cells hold numbers of every length;
+//!   [`digits`]: those whose cells hold numbers of every length; [`totals`]: those whose sums come to
+//!   the most that a cell holds;
 //! - [`buffers`]: lent buffers.
 
 pub mod buffers;
@@ -22,5 +23,6 @@ pub mod mix;
 pub mod rng;
 pub mod sample;
 pub mod steps;
+pub mod totals;
 pub mod twins;
 pub mod walk;

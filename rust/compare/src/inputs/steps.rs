@@ -2,11 +2,12 @@
 
 use crate::inputs::contended::{Size, table};
 use crate::inputs::deep::{one_mailbox, one_mutex};
-use crate::inputs::entries::{FAULTS, Fault, PLACES, Place, spoilt};
+use crate::inputs::entries::{Fault, Place, fault, spoilt};
 use crate::inputs::families::FAMILIES;
 use crate::inputs::mix::Mix;
 use crate::inputs::rng::Rng;
 use crate::inputs::sample::{Sample, Shape};
+use crate::inputs::totals;
 use crate::inputs::walk::accepted;
 use reference::check;
 
@@ -59,7 +60,7 @@ impl Steps {
 
     /// A schedule with a refused entry; where the table has no such entry, with none.
     fn refused(rng: &mut Rng) -> Self {
-        let (fault, place) = (rng.pick(&FAULTS), rng.pick(&PLACES));
+        let (fault, place) = fault(rng);
         let (sample, known) = suited(rng, fault, place);
         let checked = check(&sample.bytes).expect("the table is right");
         let way = accepted(rng, &checked, known);
@@ -106,6 +107,7 @@ pub fn suited(rng: &mut Rng, fault: Fault, place: Place) -> (Sample, Option<Vec<
             shape.mutexes = shape.mutexes.max(1);
             (Sample::mixed(rng, shape, &Mix::WAITS), None)
         }
+        (Fault::Over, _) => (totals::table(rng, shape), None),
         _ => table(rng, size),
     }
 }

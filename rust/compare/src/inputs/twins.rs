@@ -1,7 +1,7 @@
 //! Tables with two schedules: inputs for same and route.
 
 use crate::inputs::contended::{Size, table};
-use crate::inputs::entries::{FAULTS, Fault, PLACES, spoilt};
+use crate::inputs::entries::{Fault, fault, spoilt};
 use crate::inputs::families::FAMILIES;
 use crate::inputs::interleave::{exchanged, interleaved, twisted};
 use crate::inputs::rng::Rng;
@@ -69,7 +69,7 @@ impl Twins {
 
     /// Either schedule with a refused entry, or both.
     fn refused(rng: &mut Rng) -> Self {
-        let (fault, place) = (rng.pick(&FAULTS), rng.pick(&PLACES));
+        let (fault, place) = fault(rng);
         let (sample, known) = suited(rng, fault, place);
         let checked = check(&sample.bytes).expect("the table is right");
         let mut first = accepted(rng, &checked, known);

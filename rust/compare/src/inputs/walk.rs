@@ -1,7 +1,7 @@
 //! Accepted schedules, made by stepping the reference.
 
 use crate::inputs::rng::Rng;
-use reference::{Action, Ready, Site, Table};
+use reference::{Action, Ready, Site, Status, Table};
 
 /// A schedule under way: entries accepted so far and the state they led to.
 pub struct Walk<'a> {
@@ -40,6 +40,11 @@ impl<'a> Walk<'a> {
         std::array::from_fn(|actor| self.site.actor(actor).position)
     }
 
+    /// How `actor` stands.
+    pub fn status(&self, actor: usize) -> Status {
+        Status::in_state(self.table, &self.site, actor)
+    }
+
     /// Whether `actor` has run all its actions.
     pub fn finished(&self, actor: usize) -> bool {
         self.site.actor(actor).position == self.table.actions(actor)
@@ -52,7 +57,7 @@ impl<'a> Walk<'a> {
         }
         let position = self.site.actor(actor).position;
         let action: Action = self.table.action(actor, position);
-        let ready = self.site.step(actor, &action);
+        let ready = self.site.step(actor, &action).is_taken();
         if ready {
             self.entries.push(actor as u8);
         }

@@ -13,8 +13,9 @@ pub static COMMAND: Command = Command {
     summary: "what a schedule leads to, on a page: a line for each actor",
     about: "\
 Runs a schedule from a fresh site and lays out the state that it leads to, for a sheet of paper: a line
-of 101 characters for each actor, with its number, its position, its status (`ready`, `waits` or
-`finished`) and what its eight cells hold.",
+of 101 characters for each actor, with its number, its position, its status (`ready`, `waits`, `over` or
+`finished`) and what its eight cells hold. An actor is over where its next step is an Add whose sum
+would pass 4294967295, the most that a cell holds: it never goes on.",
     operands: &[TABLE, SCHEDULE],
     options: &[],
     example: Example {

@@ -13,11 +13,12 @@ use order_engine::report::Actor;
 /// The sub-command.
 pub static COMMAND: Command = Command {
     name: "ready",
-    summary: "who can go on after a schedule, and who waits for what",
+    summary: "who can go on after a schedule, and who waits for what or is over",
     about: "\
 Runs a schedule from a fresh site and says how the state stands that it leads to, the mask of the
-ready actors (bit i, from the lowest, is actor i's), and of each actor whether it is ready, waits or
-is finished: its next step, and what it waits for.",
+ready actors (bit i, from the lowest, is actor i's), and of each actor whether it is ready, waits, is
+over or is finished: its next step, and what it waits for. An actor is over where its next step is an
+Add whose sum would pass 4294967295, the most that a cell holds: it never goes on.",
     operands: &[TABLE, SCHEDULE],
     options: &[],
     example: Example {
@@ -52,6 +53,9 @@ fn stands(state: &State, actor: &Actor) -> String {
         Status::Ready(next) => format!("actor {number} is ready: {}\n", step(layout, next)),
         Status::Waits(next, why) => {
             format!("actor {number} waits: {}; {why}\n", step(layout, next))
+        }
+        Status::Over(next, why) => {
+            format!("actor {number} is over: {}; {why}\n", step(layout, next))
         }
     }
 }

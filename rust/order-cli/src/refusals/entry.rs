@@ -1,4 +1,5 @@
-//! Refusals 11 to 16: the entry, what it says, and why that cannot be in the state before it.
+//! Refusals 11 to 16, 21 and 22: the entry, what it says, and why that cannot be in the state before
+//! it.
 
 use crate::schedule::Schedule;
 use crate::state::{State, Status};
@@ -28,6 +29,11 @@ pub(super) fn words(table: &Table, schedule: &Schedule, index: usize) -> String 
             Status::Ready(next) => format!("{} is ready", step(&table.layout, next)),
             Status::Waits(next, why) => {
                 format!("{} is not ready: {why}", step(&table.layout, next))
+            }
+            Status::Over(next, why) => {
+                let step = step(&table.layout, next);
+                let last = "goes no further: only its own steps change its cells";
+                format!("{step} runs over: {why}\nactor {actor} {last}")
             }
         },
     };

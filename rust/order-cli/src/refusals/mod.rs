@@ -96,12 +96,13 @@ pub fn pointed(refusal: Refusal, asked: &Asked) -> String {
             let layout = Layout::of(asked.table);
             layout.map_or_else(String::new, |layout| action::words(refusal, &layout))
         }
-        Reason::NoActor | Reason::Finished | Reason::NotReady => {
+        Reason::NoActor | Reason::Finished | Reason::NotReady | Reason::Over => {
             of_entry(asked, asked.first, index)
         }
-        Reason::SecondNoActor | Reason::SecondFinished | Reason::SecondNotReady => {
-            of_entry(asked, asked.second, index)
-        }
+        Reason::SecondNoActor
+        | Reason::SecondFinished
+        | Reason::SecondNotReady
+        | Reason::SecondOver => of_entry(asked, asked.second, index),
         Reason::NoStep => of_table(asked, |table| name::words(&table.layout, asked.steps)),
         Reason::Different => of_table(asked, |table| match (asked.first, asked.second) {
             (Some(first), Some(second)) => difference(table, first, second, Pairs::First),

@@ -1,6 +1,6 @@
 //! Tables for tests.
 
-#![allow(dead_code)]
+#![allow(dead_code, unused_imports)]
 
 use reference::{Refusal, Site, check, follow, run};
 pub use tables::TABLE_A as A;

@@ -1,7 +1,7 @@
-//! The cases, with what document 01 asks to be printed.
+//! The cases, with what documents 01 and 02 ask to be printed.
 
 use crate::case::{Case, File};
-use tables::action::{add, lock, mutex_wait, receive, wait_any};
+use tables::action::{add, lock, mutex_wait, receive, set, wait_any};
 use tables::layout::{ACTION, LONGEST, MOST, MOST_ACTIONS};
 use tables::{Kind, Layout, TABLE_A};
 
@@ -12,6 +12,7 @@ pub fn cases() -> Vec<Case> {
     cases.extend(refused_schedules());
     cases.extend(limits());
     cases.extend(ends());
+    cases.extend(totals());
     cases.extend(unreadable());
     cases
 }
@@ -181,6 +182,40 @@ fn ends() -> Vec<Case> {
         Case::new("stuck-receive", alone, [0], ["0 0", "end stuck"]),
         Case::new("stuck-mutexes", crossed, [0, 1, 0, 1], steps),
         Case::new("finished-at-once", idle, [], ["end finished"]),
+    ]
+}
+
+/// Totals that reach the limit, that pass it, and sites that are stuck by such.
+fn totals() -> Vec<Case> {
+    let adds = |value| [set(0, value), set(1, 1), add(0, 1)];
+    let doubles = |value| [set(7, value), add(7, 7)];
+    let (reached, passed) = (adds(u32::MAX - 1), adds(u32::MAX));
+    let (fits, too_much) = (doubles((1 << 31) - 1), doubles(1 << 31));
+    let waits = [mutex_wait(0, &[0])];
+    let limit = Layout::new(0, 0, &[&reached, &fits]).bytes();
+    let added = Layout::new(0, 0, &[&passed, &fits]).bytes();
+    let doubled = Layout::new(0, 0, &[&reached, &too_much]).bytes();
+    let alone = Layout::new(0, 0, &[&passed, &too_much]).bytes();
+    let waiting = Layout::new(0, 1, &[&too_much, &waits]).bytes();
+    let whole = ["0 0", "1 0", "0 1", "1 1", "0 2", "end finished"];
+    let last = ["0 0", "0 1", "1 0", "end stuck"];
+    vec![
+        Case::new("limit", limit, [0, 1, 0, 1, 0], whole),
+        Case::new("refused-21", added, [0, 1, 0, 0, 9], ["refused 21 at 3"]),
+        Case::new(
+            "refused-21-doubled",
+            doubled,
+            [1, 0, 0, 0, 1],
+            ["refused 21 at 4"],
+        ),
+        Case::new("stuck-over", alone, [0, 0, 1], last),
+        Case::new(
+            "stuck-over-and-wait",
+            waiting.clone(),
+            [0],
+            ["0 0", "end stuck"],
+        ),
+        Case::new("refused-21-stuck", waiting, [0, 0], ["refused 21 at 1"]),
     ]
 }
 

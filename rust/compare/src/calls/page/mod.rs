@@ -3,7 +3,8 @@
 mod room;
 mod sights;
 
-use crate::harness::call::{Call, no_sweep};
+use crate::calls::totals;
+use crate::harness::call::Call;
 use crate::harness::slots::{Buffer, Lent, SCHEDULE, Slots, TABLE};
 use crate::inputs::steps::Steps;
 use crate::inputs::{buffers, digits};
@@ -26,7 +27,7 @@ pub const CALL: Call = Call {
         input.read = make(rng).slices();
         buffers::bytes(rng, &mut input.bytes, PAGE_ROOM);
     },
-    sweep: no_sweep,
+    sweep: totals::sweep_one,
     engine: |lent| order_engine::page::fields(lent.read[0], lent.read[1], lent.bytes).into(),
     reference: |lent: Lent| {
         let answer = reference::page(lent.read[0], lent.read[1], lent.bytes);
@@ -34,6 +35,7 @@ pub const CALL: Call = Call {
     },
     mistake: |asked| asked.unequal(),
     note: |tally, asked| {
+        totals::note(tally, asked);
         room::note(tally, asked);
         if asked.accepted() {
             let length = asked.reference.values[0] as usize;
@@ -47,6 +49,7 @@ pub const CALL: Call = Call {
             .refused(&Reason::OF_TABLE, 200)
             .refused(&[Reason::PageRoom], 5_000)
             .places(&Reason::OF_FIRST, 2_000);
+        let demands = totals::demands(demands, &[Reason::Over], 1_000);
         sights::demands(room::demands(demands))
     },
 };

@@ -106,7 +106,8 @@ impl Met {
                 let queue = site.mutex(usize::from(mutex));
                 self.owner_leaves |= queue.len() == usize::from(MOST) && queue[0] == entry;
             }
-            assert!(site.step(actor, &step), "the schedule is accepted");
+            let next = site.step(actor, &step);
+            assert!(next.is_taken(), "the schedule is accepted");
             self.look(&site, actor, &step);
         }
         site

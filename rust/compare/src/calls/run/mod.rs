@@ -2,7 +2,8 @@
 
 mod depth;
 
-use crate::harness::call::{Call, no_sweep};
+use crate::calls::totals;
+use crate::harness::call::Call;
 use crate::harness::slots::{Buffer, Lent, SCHEDULE, Slots, TABLE};
 use crate::inputs::buffers;
 use crate::inputs::steps::Steps;
@@ -24,7 +25,7 @@ pub const CALL: Call = Call {
         input.read = Steps::any(rng).slices();
         buffers::bytes(rng, &mut input.bytes, REPORT_ROOM);
     },
-    sweep: no_sweep,
+    sweep: totals::sweep_one,
     engine: |lent| order_engine::run::fields(lent.read[0], lent.read[1], lent.bytes).into(),
     reference: |lent: Lent| {
         let answer = reference::run(lent.read[0], lent.read[1], lent.bytes);
@@ -32,6 +33,7 @@ pub const CALL: Call = Call {
     },
     mistake: |asked| asked.unequal(),
     note: |tally, asked| {
+        totals::note(tally, asked);
         if asked.accepted() {
             let [table, schedule, _] = &asked.input.read;
             depth::note(tally, table, schedule, asked.reference.values[0]);
@@ -43,7 +45,7 @@ pub const CALL: Call = Call {
             .refused(&Reason::OF_TABLE, 200)
             .refused(&[Reason::ReportRoom], 5_000)
             .places(&Reason::OF_FIRST, 2_000);
-        depth::demands(demands)
+        depth::demands(totals::demands(demands, &[Reason::Over], 1_000))
     },
 };
 

@@ -3,8 +3,9 @@
 
 mod reversed;
 
+use crate::calls::totals;
 use crate::harness::asked::Asked;
-use crate::harness::call::{Call, no_sweep};
+use crate::harness::call::Call;
 use crate::harness::slots::{Buffer, FIRST, Lent, SECOND, Slots, TABLE};
 use crate::harness::tally::Tally;
 use crate::inputs::twins::Twins;
@@ -24,7 +25,7 @@ pub const CALL: Call = Call {
     refusals: &[&Reason::OF_TABLE, &Reason::OF_FIRST, &Reason::OF_SECOND],
     cases: 130_000,
     next: |rng, input| input.read = Twins::any(rng).slices(),
-    sweep: no_sweep,
+    sweep: totals::sweep_two,
     engine: |lent| {
         let [table, first, second] = lent.read;
         order_engine::same::fields(table, first, second).into()
@@ -39,7 +40,7 @@ pub const CALL: Call = Call {
     demands: |demands, tally| {
         let quarter = tally.accepted() / 4;
         let tenth = tally.noted(DIFFERENT) / 10;
-        demands
+        totals::demands(demands, &[Reason::Over, Reason::SecondOver], 100)
             .accepted(100_000)
             .refused(&Reason::OF_TABLE, 100)
             .places(&Reason::OF_FIRST, 200)
@@ -107,6 +108,7 @@ fn searched(asked: &Asked) -> bool {
 }
 
 fn note(tally: &mut Tally, asked: &Asked) {
+    totals::note(tally, asked);
     if !asked.accepted() {
         return;
     }
