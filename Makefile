@@ -83,11 +83,13 @@ cli: $(LIB)
 	$(CARGO) build $(LOCKED) --release --quiet --package order-cli
 	@echo 'built $(ORDER:$(CURDIR)/%=%)'
 
-# The proved calls, as target/staticlib/liborder_ffi.a, and the listing program, as target/bin/turns; what the prover says is shown where it refuses.
+# The proved calls, as target/staticlib/liborder_ffi.a, and the listing program, as target/bin/turns; what the prover says is shown where it refuses. Each
+# function of the library is told to begin at a multiple of 64 bytes, wherever it is linked (docs/DECISIONS.md, C17).
 lib:
 	@mkdir -p target
 	@[ -f $(ARCHIVE) ] || echo 'proving and building the library: some minutes the first time' >&2
 	@rt staticlib order_ffi > target/lib.log 2>&1 || { cat target/lib.log; exit 1; }
+	@objcopy --preserve-dates --set-section-alignment '.text.*=64' $(ARCHIVE)
 
 program:
 	@mkdir -p target
