@@ -5,7 +5,7 @@ use native.Mathlib.Nat.{zero-add}
 use native.Mathlib.Omega.{arith}
 use mathlib.Core.Path.{_≡_, refl, sym, _∙_, ap, ap₂, subst}
 use mathlib.Core.Logic.{_⊎_, inl, inr, _↔_, _≢_}
-use mathlib.Core.Bool.{true, false}
+use mathlib.Core.Bool.{true, false, cond}
 use mathlib.Core.List.{List, [], _∷_, _++_}
 use borrow.Author.Tests.{ltb-true, lt-ltb}
 use lib.Dec.{ltb}
@@ -22,6 +22,7 @@ use Rattle.trace.specs.Machine.{Machine}
 use Rattle.trace.specs.Schedule.{accepted as all-taken, final}
 use Rattle.trace.specs.Chain.{Chain, swapAt, replay}
 use Rattle.trace.specs.Order.{has}
+use Rattle.trace.specs.Same.{equivalent}
 use Rattle.trace.proofs.Bools.{which, is-false}
 use Rattle.trace.proofs.Run.{final-append, accepted-append, first-ready, rest-accepted}
 use Rattle.trace.proofs.Swap.{swap-length}
@@ -30,8 +31,8 @@ use Rattle.model.specs.Views.{looks, total, largest, runsOver}
 use Rattle.model.specs.Local.{Seen, see, cellsAfter}
 use Rattle.model.specs.Step.{NextStep, taken, waiting, over, actionAt, nextAction, unfinished, passes, nextStep, ready, step}
 use Rattle.model.specs.Ready.{bit, ReadyAnswer, readyAnswer}
-use Rattle.model.specs.Schedule.{machine, endState, RefusalNumbers, firstNumbers, checkStep, checkEntry, checkFrom, checkSchedule}
-use Rattle.model.specs.Calls.{gives, refuses, answer, runOf, readyChecks, readyOf}
+use Rattle.model.specs.Schedule.{machine, endState, RefusalNumbers, firstNumbers, secondNumbers, checkStep, checkEntry, checkFrom, checkSchedule}
+use Rattle.model.specs.Calls.{gives, refuses, answer, runOf, readyChecks, readyOf, SameVerdict, same, different, sameChecks, sameOf}
 use Rattle.model.specs.Page as Page
 use Rattle.model.specs.Demand3.{Accepted, EndsAlike}
 use Rattle.model.specs.Over.{cellsAt, OverAfter, WouldPass, StillOver, GoOnAlike, PlainSum, EveryOver}
@@ -39,7 +40,7 @@ use Rattle.model.proofs.Upd.{not-equal}
 use Rattle.model.proofs.Ports.{number-test}
 use Rattle.model.proofs.Invariant.{others-record}
 use Rattle.model.proofs.NextSteps.{clash, over-runs}
-use Rattle.model.proofs.Checks.{ready-parts, checks-after}
+use Rattle.model.proofs.Checks.{refused-not, ready-parts, checks-after, taken-checks}
 use Rattle.model.proofs.ReportBoundCells.{own-record, eight-end}
 use Rattle.model.proofs.ReportBoundValues.{total-small, small-end}
 use Rattle.model.proofs.Demand3.{ready-taken, bit-ready, demand-3}
@@ -72,6 +73,16 @@ answer-refused : {A : Type 0} (o : Outcome) (a : A) (n p : ℕ) → answer o a �
 answer-refused accepted a n p e = let z : _≡_ {A = ℕ} 0 1 = cc in absurd (omega arith)
 answer-refused (refused m q) a n p e = cc
 
+-- the number of an Add that runs over is none of the others
+abbrev Other : RefusalNumbers → Type 0
+Other n = (n .absent ≢ n .over) × (n .finished ≢ n .over) × (n .waiting ≢ n .over)
+
+first-other : Other firstNumbers
+first-other = (λ e. omega arith, λ e. omega arith, λ e. omega arith)
+
+second-other : Other secondNumbers
+second-other = (λ e. omega arith, λ e. omega arith, λ e. omega arith)
+
 replay-length : (ks p : List ℕ) → length (replay ks p) ≡ length p
 replay-length [] p = refl
 replay-length (k ∷ ks) p = replay-length ks (swapAt k p) ∙ swap-length k p
@@ -98,71 +109,87 @@ module _ (table : List ℕ) where
       let rest = over-along (step table s b) more a (over-by s (step table s b) a kept o) (rest-accepted (machine table) s b more h) in
       (rw (not-equal number-test a b ne) (rest .0), rest .1 ∙ kept)
 
-  -- ---- refused 21
+  -- ---- refused as over
 
-  step-over : (t : NextStep) (k : ℕ) → (checkStep firstNumbers t k ⨾ accepted) ≡ refused 21 k → t ≡ over
-  step-over taken k e = let z : _≡_ {A = ℕ} 0 21 = ap numberOf e in absurd (omega arith)
-  step-over waiting k e = let z : _≡_ {A = ℕ} 13 21 = ap numberOf e in absurd (omega arith)
-  step-over over k e = refl
+  -- an actor of the table that is not finished, and whose next step is over
+  abbrev IsOver : Site → ℕ → Type 0
+  IsOver s a = (ltb a (actorsOf table) ≡ true) × (unfinished table s a ≡ true) × (nextStep table s a ≡ over)
 
-  entry-over : (s : Site) (a k : ℕ) → (checkEntry firstNumbers table s a k ⨾ accepted) ≡ refused 21 k
-      → (ltb a (actorsOf table) ≡ true) × (unfinished table s a ≡ true) × (nextStep table s a ≡ over)
-  entry-over s a k e = go (which (ltb a (actorsOf table))) (which (unfinished table s a))
+  would-pass : (p : List ℕ) (a : ℕ) → IsOver (endState table p) a ↔ WouldPass table p a
+  would-pass p a = (passing, running)
     where
-      go : (ltb a (actorsOf table) ≡ true) ⊎ (ltb a (actorsOf table) ≡ false) → (unfinished table s a ≡ true) ⊎ (unfinished table s a ≡ false)
-          → (ltb a (actorsOf table) ≡ true) × (unfinished table s a ≡ true) × (nextStep table s a ≡ over)
-      go (inl p) (inl q) = (p, q, step-over (nextStep table s a) k (rw (p, q) at e))
-      go (inl p) (inr q) = let z : _≡_ {A = ℕ} 12 21 = ap numberOf (rw (p, q) at e) in absurd (omega arith)
-      go (inr p) q = let z : _≡_ {A = ℕ} 11 21 = ap numberOf (rw p at e) in absurd (omega arith)
+      x : Action
+      x = nextAction table (endState table p) a
+
+      passing : IsOver (endState table p) a → WouldPass table p a
+      passing f =
+          let out : runsOver x (cellsAt table p a) ≡ true = over-runs (runsOver x (cellsAt table p a)) (passes table (endState table p) a x) (f .2) in
+          let w = total-add x (cellsAt table p a) (ltb-true largest (total x (cellsAt table p a)) out) in
+          (w .0, w .1, ltb-true a (actorsOf table) (f .0), ltb-true (endState table p .actor a .position) (countOf table a) (f .1), w .2, w .3)
+
+      running : WouldPass table p a → IsOver (endState table p) a
+      running w =
+          let out : runsOver x (cellsAt table p a) ≡ true =
+          ap (λ (y : Action). runsOver y (cellsAt table p a)) (w .4) ∙ lt-ltb largest _ (w .5) in
+          (lt-ltb a (actorsOf table) (w .2), lt-ltb (endState table p .actor a .position) (countOf table a) (w .3), rw out)
+
+  -- by numbers of which that of an Add that runs over is none of the others
+  module _ (n : RefusalNumbers) (other : Other n) where
+    step-over : (t : NextStep) (k : ℕ) → (checkStep n t k ⨾ accepted) ≡ refused (n .over) k → t ≡ over
+    step-over taken k e = refused-not (sym e)
+    step-over waiting k e = absurd (other .2 (ap numberOf e))
+    step-over over k e = refl
+
+    entry-over : (s : Site) (a k : ℕ) → (checkEntry n table s a k ⨾ accepted) ≡ refused (n .over) k → IsOver s a
+    entry-over s a k e = go (which (ltb a (actorsOf table))) (which (unfinished table s a))
+      where
+        go : (ltb a (actorsOf table) ≡ true) ⊎ (ltb a (actorsOf table) ≡ false) → (unfinished table s a ≡ true) ⊎ (unfinished table s a ≡ false)
+            → IsOver s a
+        go (inl p) (inl q) = (p, q, step-over (nextStep table s a) k (rw (p, q) at e))
+        go (inl p) (inr q) = absurd (other .1 (ap numberOf (rw (p, q) at e)))
+        go (inr p) q = absurd (other .0 (ap numberOf (rw p at e)))
+
+    -- one more entry after an accepted schedule decides
+    over-checked : (p : List ℕ) (a : ℕ) → Accepted table p
+        → (checkSchedule n table (p ++ (a ∷ [])) ≡ refused (n .over) (length p)) ↔ IsOver (endState table p) a
+    over-checked p a h =
+        let last : checkSchedule n table (p ++ (a ∷ [])) ≡ (checkEntry n table (endState table p) a (length p) ⨾ accepted) =
+        checks-after table n initial 0 p (a ∷ []) h ∙ ap (λ (k : ℕ). checkFrom n table (endState table p) k (a ∷ [])) (zero-add (length p)) in
+        (λ e. entry-over (endState table p) a (length p) (sym last ∙ e), λ f. last ∙ rw (f .0, f .1, f .2))
 
   module _ (read : readOf table ≡ accepted) where
-    -- one more entry after an accepted schedule decides
-    checks-so : (p : List ℕ) (a : ℕ) → Accepted table p
-        → readyChecks table (p ++ (a ∷ [])) ≡ (checkEntry firstNumbers table (endState table p) a (length p) ⨾ accepted)
-    checks-so p a h =
-        rw read
-        (checks-after table firstNumbers initial 0 p (a ∷ []) h
-        ∙ ap (λ (k : ℕ). checkFrom firstNumbers table (endState table p) k (a ∷ [])) (zero-add (length p)))
-
-    over-refused : (p : List ℕ) (a : ℕ) → Accepted table p → ltb a (actorsOf table) ≡ true → unfinished table (endState table p) a ≡ true
-        → nextStep table (endState table p) a ≡ over → OverAfter table p a
+    over-after : (p : List ℕ) (a : ℕ) → Accepted table p → OverAfter table p a ↔ IsOver (endState table p) a
     unfolding readyOf
-    over-refused p a h i u o =
-        let checks : readyChecks table (p ++ (a ∷ [])) ≡ refused 21 (length p) = checks-so p a h ∙ rw (i, u, o) in
-        ap (λ (c : Outcome). answer c (readyAnswer table (endState table (p ++ (a ∷ []))))) checks
-
-    refused-over : (p : List ℕ) (a : ℕ) → Accepted table p → OverAfter table p a
-        → (ltb a (actorsOf table) ≡ true) × (unfinished table (endState table p) a ≡ true) × (nextStep table (endState table p) a ≡ over)
-    unfolding readyOf
-    refused-over p a h e =
-        entry-over (endState table p) a (length p)
-        (sym (checks-so p a h) ∙ answer-refused (readyChecks table (p ++ (a ∷ []))) (readyAnswer table (endState table (p ++ (a ∷ [])))) 21 (length p) e)
+    over-after p a h =
+        let checks : readyChecks table (p ++ (a ∷ [])) ≡ checkSchedule firstNumbers table (p ++ (a ∷ [])) = rw read in
+        let so = over-checked firstNumbers first-other p a h in (
+          λ e. so .0 (sym checks ∙ answer-refused (readyChecks table (p ++ (a ∷ []))) (readyAnswer table (endState table (p ++ (a ∷ [])))) 21 (length p) e),
+          λ f. ap (λ (c : Outcome). answer c (readyAnswer table (endState table (p ++ (a ∷ []))))) (checks ∙ so .1 f),
+        )
 
     over-exactly : (p : List ℕ) (a : ℕ) → Accepted table p → OverAfter table p a ↔ WouldPass table p a
-    over-exactly p a h = (passing, refusing)
-      where
-        x : Action
-        x = nextAction table (endState table p) a
+    over-exactly p a h =
+        let so = over-after p a h in let w = would-pass p a in (λ e. w .0 (so .0 e), λ f. so .1 (w .1 f))
 
-        passing : OverAfter table p a → WouldPass table p a
-        passing e =
-            let f = refused-over p a h e in
-            let out : runsOver x (cellsAt table p a) ≡ true = over-runs (runsOver x (cellsAt table p a)) (passes table (endState table p) a x) (f .2) in
-            let w = total-add x (cellsAt table p a) (ltb-true largest (total x (cellsAt table p a)) out) in
-            (w .0, w .1, ltb-true a (actorsOf table) (f .0), ltb-true (endState table p .actor a .position) (countOf table a) (f .1), w .2, w .3)
-
-        refusing : WouldPass table p a → OverAfter table p a
-        refusing w =
-            let out : runsOver x (cellsAt table p a) ≡ true =
-            ap (λ (y : Action). runsOver y (cellsAt table p a)) (w .4) ∙ lt-ltb largest _ (w .5) in
-            over-refused p a h (lt-ltb a (actorsOf table) (w .2)) (lt-ltb (endState table p .actor a .position) (countOf table a) (w .3)) (rw out)
+    over-second : (first p : List ℕ) (a : ℕ) → Accepted table first → Accepted table p
+        → (sameOf table first (p ++ (a ∷ [])) ≡ refuses 22 (length p)) ↔ WouldPass table p a
+    unfolding sameOf
+    over-second first p a g h =
+        let checks : sameChecks table first (p ++ (a ∷ [])) ≡ checkSchedule secondNumbers table (p ++ (a ∷ [])) =
+        rw (read, taken-checks table firstNumbers initial 0 first g) in
+        let verdict : SameVerdict = cond (equivalent (machine table) initial first (p ++ (a ∷ []))) same different in
+        let so = over-checked secondNumbers second-other p a h in
+        let w = would-pass p a in (
+          λ e. w .0 (so .0 (sym checks ∙ answer-refused (sameChecks table first (p ++ (a ∷ []))) verdict 22 (length p) e)),
+          λ f. ap (λ (c : Outcome). answer c verdict) (checks ∙ so .1 (w .1 f)),
+        )
 
     still-over : (p more : List ℕ) (a : ℕ) (later : ReadyAnswer) → OverAfter table p a → readyOf table (p ++ more) ≡ gives later
         → StillOver table p more a later
     still-over p more a later e g =
         let t : Accepted table (p ++ more) = ready-taken table read (p ++ more) later g in
         let parts = accepted-append (machine table) initial p more t in
-        let f = refused-over p a (parts .0) e in
+        let f = over-after p a (parts .0) .0 e in
         let along = over-along (endState table p) more a (f .2) (parts .1) in
         let end : endState table (p ++ more) .actor a ≡ endState table p .actor a =
         ap (λ (s : Site). s .actor a) (final-append (machine table) initial p more) ∙ along .1 in
@@ -170,7 +197,7 @@ module _ (table : List ℕ) where
         let u : unfinished table (endState table (p ++ more)) a ≡ true = rw end (f .1) in
         record {
           others = along .0;
-          over-still = over-refused (p ++ more) a t (f .0) u o;
+          over-still = over-after (p ++ more) a t .1 (f .0, u, o);
           bit-zero =
               bit-ready table read (p ++ more) a later g
               ∙ ap bit (is-false (ready table (endState table (p ++ more)) a) (λ r. clash o (ready-parts table (endState table (p ++ more)) a r .2)));
@@ -237,6 +264,7 @@ pub every-over : EveryOver
 every-over table read =
     record {
       exactly = over-exactly table read;
+      exactly-second = over-second table read;
       never-ready = still-over table read;
       exchanged = go-on-exchanged table read;
       sums = plain-sum table read;

@@ -1,5 +1,5 @@
--- Totals that run over (document 02, W2), of every table that the reader accepts: which steps are refused 21; that such a step never becomes ready;
--- that exchanged schedules meet it at the same step; and that no sum wraps. `proofs/Over.antt` proves it. Demand 3 is stated and holds as before.
+-- Totals that run over (document 02, W2), of every table that the reader accepts: which steps are refused 21 and 22; that such a step never becomes
+-- ready; that exchanged schedules meet it at the same step; and that no sum wraps. `proofs/Over.antt` proves it. Demand 3 is stated and holds as before.
 -- Assumes nothing: these are definitions.
 use Prim.Native.Nat.{ℕ, _+_, _^_, _<_}
 use mathlib.Core.Path.{_≡_}
@@ -18,7 +18,7 @@ use Rattle.model.specs.Step.{nextName, nextAction}
 use Rattle.model.specs.Ready.{ReadyAnswer}
 use Rattle.model.specs.ReadyMask.{bitOf}
 use Rattle.model.specs.Schedule.{machine, endState, RefusalNumbers, checkSchedule}
-use Rattle.model.specs.Calls.{gives, refuses, runOf, readyOf}
+use Rattle.model.specs.Calls.{gives, refuses, runOf, readyOf, sameOf}
 use Rattle.model.specs.Page.{over, statusOf, pageOf}
 use Rattle.model.specs.Determined.{Bytes}
 use Rattle.model.specs.Demand3.{Accepted}
@@ -66,6 +66,9 @@ pub record PlainSum (before after : List ℕ) (cell other : ℕ) : Type 0 where
 pub record Over (table : List ℕ) : Type 0 where
   -- 21 is given of such an Add and of nothing else
   pub exactly : (p : List ℕ) (a : ℕ) → Accepted table p → OverAfter table p a ↔ WouldPass table p a
+  -- and so is 22, of the second of two schedules
+  pub exactly-second : (first p : List ℕ) (a : ℕ) → Accepted table first → Accepted table p
+      → (sameOf table first (p ++ (a ∷ [])) ≡ refuses 22 (length p)) ↔ WouldPass table p a
   -- "never becomes so": no schedule that goes on from there steps that actor, and after each of them it is over still
   pub never-ready : (p more : List ℕ) (a : ℕ) (later : ReadyAnswer) → OverAfter table p a → readyOf table (p ++ more) ≡ gives later
       → StillOver table p more a later

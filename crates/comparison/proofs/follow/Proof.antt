@@ -1,4 +1,4 @@
--- `comparison::follow` meets its contract: a second schedule that halts early is refused 14 to 16, and one that is accepted is judged.
+-- `comparison::follow` meets its contract: a second schedule that halts early is refused 14 to 16 or 22, and one that is accepted is judged.
 -- Assumes nothing.
 use mathlib.Core.Path.{refl, _∙_, ap, sym}
 use Rattle.model.specs.Schedule.{secondNumbers}
