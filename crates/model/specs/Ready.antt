@@ -24,7 +24,7 @@ abbrev pub all : (ℕ → Bool) → ℕ → ℕ → Bool
 all f zero k = true
 all f (suc n) k = f k && all f n (suc k)
 
--- the ending: every actor finished; not finished, and nobody ready (a deadlock); going
+-- the ending: every actor finished; not finished, and nobody ready (a deadlock, where all that are left wait); going
 pub data Ending : Type 0 where
   finished stuck going : Ending
 

@@ -47,7 +47,7 @@ impl Actor {
     {
         let x = self.cells[cell];
         let y = self.cells[other];
-        passes(x, y)
+        too_large(x, y)
     }
 
     // What an Add is as the next step.
@@ -119,8 +119,8 @@ fn smaller(x: u32, y: u32) -> u32
     y
 }
 
-// Whether a sum passes the largest number that a cell holds.
-fn passes(x: u32, y: u32) -> bool
+// Whether a sum is above the largest number that a cell holds.
+fn too_large(x: u32, y: u32) -> bool
     ensures { λ r. ⌜ r ≡ ltb largest (x + y) ⌝ }
 {
     4294967295 < x as u64 + y as u64
