@@ -11,7 +11,7 @@ use lib.Dec.{ltb}
 use lib.ListN.{length, getD}
 use Rattle.table.specs.Outcome.{Outcome, accepted, refused, demand, _⨾_}
 use Rattle.table.specs.Format.{actorsOf}
-use Rattle.table.proofs.Checks.{then-left, then-right, demand-true}
+use Rattle.table.proofs.Checks.{refused-not, then-left, then-right, demand-true}
 use Rattle.trace.specs.Schedule.{accepted as all-taken, final, names}
 use Rattle.trace.proofs.Bools.{both, and-left, and-right}
 use Rattle.trace.proofs.Run.{first-ready, rest-accepted}
@@ -22,9 +22,6 @@ use Rattle.model.specs.Calls.{gives, answer, inTable}
 use Rattle.model.proofs.NextSteps.{is-taken}
 
 -- ---- outcomes
-
-pub refused-not : {n p : ℕ} {A : Type 0} → refused n p ≡ accepted → A
-refused-not e = let z : _≡_ {A = ℕ} 0 1 = cc in absurd (omega arith)
 
 pub then-both : {x y : Outcome} → x ≡ accepted → y ≡ accepted → (x ⨾ y) ≡ accepted
 then-both {x} {y} h k = rw h k

@@ -3,7 +3,7 @@
 -- `FourCases`: the pair verdict is document 01's four cases;
 -- `ReadyMask`: the mask's bits and ones;
 -- `Demand3`: demand 3, of every table that the reader accepts;
--- `Refusals`: a refused run changes nothing lent;
+-- `Refusals`: a refused run or page changes nothing lent;
 -- `Reached`: what holds of every state that an accepted schedule reaches, from any start that has it;
 -- `ReportBound`: no report passes the table's bound, nor 2,912 bytes;
 -- `Determined`: two states are equal when their reports are;

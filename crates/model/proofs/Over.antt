@@ -17,6 +17,7 @@ use Rattle.table.specs.Outcome.{Outcome, accepted, refused, _⨾_, numberOf}
 use Rattle.table.specs.Format.{actorsOf, countOf}
 use Rattle.table.specs.Read.{readOf}
 use Rattle.table.specs.Promise.{InRange}
+use Rattle.table.proofs.Checks.{refused-not}
 use Rattle.table.proofs.Promise.{promised}
 use Rattle.trace.specs.Machine.{Machine}
 use Rattle.trace.specs.Schedule.{accepted as all-taken, final}
@@ -40,7 +41,7 @@ use Rattle.model.proofs.Upd.{not-equal}
 use Rattle.model.proofs.Ports.{number-test}
 use Rattle.model.proofs.Invariant.{others-record}
 use Rattle.model.proofs.NextSteps.{clash, over-runs}
-use Rattle.model.proofs.Checks.{refused-not, ready-parts, checks-after, taken-checks}
+use Rattle.model.proofs.Checks.{ready-parts, checks-after, taken-checks}
 use Rattle.model.proofs.ReportBoundCells.{own-record, eight-end}
 use Rattle.model.proofs.ReportBoundValues.{total-small, small-end}
 use Rattle.model.proofs.Demand3.{ready-taken, bit-ready, demand-3}

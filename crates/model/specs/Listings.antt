@@ -8,7 +8,8 @@ use lib.ListN.{set}
 use Rattle.model.specs.Listing.{listingOf}
 use Rattle.model.specs.Claims.{lines}
 use Rattle.model.specs.Cases.{tableA}
-use Rattle.model.specs.Examples.{plain, sets, site, receive, waitAny}
+use Rattle.model.specs.Examples.{site, receive, waitAny}
+use Rattle.model.specs.OverExamples.{alone, double}
 
 -- a table, a schedule and their listing, line by line
 pub record Listed : Type 0 where
@@ -40,12 +41,12 @@ listings =
     }
     -- an Add that would run over: not stepped it leaves the site stuck, stepped it is refused
     ∷ record {
-      table = site ((sets 0 2147483648 ∷ plain 1 0 0 ∷ []) ∷ []);
+      table = alone (double 2147483648);
       schedule = 0 ∷ [];
       text = "0 0" ∷ "end stuck" ∷ [];
     }
     ∷ record {
-      table = site ((sets 0 2147483648 ∷ plain 1 0 0 ∷ []) ∷ []);
+      table = alone (double 2147483648);
       schedule = 0 ∷ 0 ∷ [];
       text = "refused 21 at 1" ∷ [];
     }

@@ -17,7 +17,7 @@ sum first second = sets 0 first ∷ sets 1 second ∷ plain 1 0 1 ∷ []
 abbrev pub double : (value : ℕ) → List (List ℕ)
 double value = sets 0 value ∷ plain 1 0 0 ∷ []
 
--- one actor, stepped so far that its Add is next; then with the Add
+-- the table of one actor
 abbrev pub alone : List (List ℕ) → List ℕ
 alone actions = site (actions ∷ [])
 

@@ -1,7 +1,7 @@
 -- From one entry of a schedule to the next: what a step may rely on, what it leaves, and what an entry that is refused makes of the schedule's checks.
 -- Assumes nothing.
 use mathlib.Core.Path.{_≡_, refl, _∙_, ap, ap₂, sym, subst}
-use mathlib.Core.Bool.{Bool, true, false, not, _||_, true≢false}
+use mathlib.Core.Bool.{Bool, true, false, true≢false}
 use mathlib.Core.Logic.{_⊎_, inl, inr}
 use mathlib.Core.List.{List, [], _∷_, _++_, map}
 use Prim.Native.Nat.{ℕ, suc, _+_, _*_, _<_, _≤_}
@@ -20,12 +20,11 @@ use Rattle.trace.specs.Machine.{Name}
 use Rattle.trace.specs.Schedule.{accepted, final, names}
 use Rattle.trace.proofs.Bools.{which}
 use Rattle.model.specs.Site.{Site, Actor as Record, upd, name, initial}
-use Rattle.model.specs.Views.{looks, waits, runsOver}
+use Rattle.model.specs.Views.{looks}
 use Rattle.model.specs.Mutex.{join}
-use Rattle.model.specs.Local.{Seen, see, isSeen, local}
+use Rattle.model.specs.Local.{Seen, see, local}
 use Rattle.model.specs.Step.{NextStep, taken, waiting, over, isTaken, unfinished, stepOf, nextStep, ready, step}
 use Rattle.model.specs.Schedule.{machine, RefusalNumbers, checkStep, checkFrom, checkSchedule}
-use Rattle.model.proofs.NextSteps.{judged}
 use Rattle.model.proofs.Reached.{reached-end}
 use Rattle.model.proofs.ReportBoundCells.{cellsAfter-length}
 use Rattle.model.proofs.ReportBound.{entries-room}
@@ -38,7 +37,7 @@ use Rattle.names.proofs.InByte.{name-byte}
 use Rattle.model.proofs.Checks.{parts-ready, checks-after}
 use Rattle.play.proofs.Prefix.{accepted-more, final-more, names-more}
 use Rattle.play.proofs.Playing.{reached, Playing, records-set, join-most}
-use Rattle.look.proofs.Sees.{see-parts}
+use Rattle.look.proofs.Sees.{see-parts, step-parts}
 
 map-more : (f : ℕ → Name) (l : List ℕ) (x : ℕ) → map f (l ++ (x ∷ [])) ≡ map f l ++ (f x ∷ [])
 map-more f [] x = refl
@@ -103,8 +102,7 @@ module _ {table schedule comms log ends queues names′ : List ℕ} {actors : Li
         step-here : nextStep table (reached table schedule i) a ≡ stepOf table (seenFrom r (mailOf comms log ends) (queuesOf queues)) a x
         step-here =
             sym (ap (λ (s : Site). nextStep table s a) (P .site))
-            ∙ ap (λ (s : Seen). judged (runsOver x (r .cells)) (not (waits x) || isSeen s))
-            (see-parts here (seenFrom r (mailOf comms log ends) (queuesOf queues)) a (looks x) refl refl)
+            ∙ step-parts table here (seenFrom r (mailOf comms log ends) (queuesOf queues)) a x refl refl refl
 
         -- a step that is not taken is refused by what it is
         pub entry-untaken : (t : NextStep) → stepOf table (seenFrom r (mailOf comms log ends) (queuesOf queues)) a x ≡ t → isTaken t ≡ false

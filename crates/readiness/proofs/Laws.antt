@@ -1,7 +1,7 @@
 -- Readiness over the arrays: one actor's look, the mask from the last actor down, and whether everyone is finished.
 -- Assumes nothing.
 use mathlib.Core.Path.{_≡_, refl, _∙_, ap, ap₂, sym}
-use mathlib.Core.Bool.{Bool, true, false, not, _&&_, _||_}
+use mathlib.Core.Bool.{Bool, true, false, _&&_}
 use mathlib.Core.List.{List}
 use Prim.Native.Nat.{ℕ, suc, _+_, _-_, _*_, _^_, _<_, _≤_}
 use native.Mathlib.Numerals.{add-one}
@@ -14,11 +14,8 @@ use lib.Count.{ones}
 use Rattle.table.specs.declared.Action.{Action}
 use Rattle.table.specs.Format.{actorsOf, countOf}
 use Rattle.model.specs.Site.{Site}
-use Rattle.model.specs.Views.{looks, waits, runsOver}
-use Rattle.model.specs.Local.{Seen, isSeen}
 use Rattle.model.specs.Step.{NextStep, isTaken, stepOf, nextStep, ready}
 use Rattle.model.specs.Ready.{bit, maskOf, all, endingOf, readyMask, readyCount, readyAnswer}
-use Rattle.model.proofs.NextSteps.{judged}
 use Rattle.model.proofs.ReadyMask.{mask-small, mask-right}
 use Rattle.state.specs.State.{mailOf, queuesOf, freshActor, nextOf, seenFrom}
 use Rattle.readiness.specs.Parts.{siteWith, stepFrom, looksReady, everyoneFinished}
@@ -26,7 +23,7 @@ use Rattle.answers.specs.Answers.{endingAs, readinessOf}
 use Rattle.state.specs.declared.Actor.{Actor}
 use Rattle.answers.specs.declared.Ending.the-variants as case
 use Rattle.answers.specs.declared.Readiness.{Readiness}
-use Rattle.look.proofs.Sees.{see-parts}
+use Rattle.look.proofs.Sees.{step-parts}
 
 -- ---- one actor
 
@@ -49,8 +46,7 @@ pub step-looks : (table : List ℕ) (actors : List Actor) (comms queues log ends
     → nextStep table (siteWith actors comms queues log ends) a ≡ stepFrom table a (getD actors a freshActor) comms queues log′ ends′
 step-looks table actors comms queues log ends log′ ends′ a =
     let r : Actor = getD actors a freshActor in
-    ap (λ (s : Seen). judged (runsOver (nextOf table a r) (r .cells)) (not (waits (nextOf table a r)) || isSeen s))
-    (see-parts (siteWith actors comms queues log ends) (seenFrom r (mailOf comms log′ ends′) (queuesOf queues)) a (looks (nextOf table a r)) refl refl)
+    step-parts table (siteWith actors comms queues log ends) (seenFrom r (mailOf comms log′ ends′) (queuesOf queues)) a (nextOf table a r) refl refl refl
 
 pub ready-looks : (table : List ℕ) (actors : List Actor) (comms queues log ends : List ℕ) (a : ℕ) → a < actorsOf table
     → ready table (siteWith actors comms queues log ends) a ≡ looksReady table a (getD actors a freshActor) comms queues log ends

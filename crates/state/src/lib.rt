@@ -4,7 +4,8 @@ ghost use mathlib.Core.Bool.{cond};
 ghost use Prim.Native.Nat.{_+_, _<_, _≤_, min};
 ghost use lib.Dec.{ltb};
 ghost use lib.ListN.{length, getD, set};
-ghost use Rattle.model.specs.Views.{largest};
+ghost use Rattle.table.specs.declared.Action.the-variants.{Add};
+ghost use Rattle.model.specs.Views.{total, largest, runsOver};
 ghost use Rattle.model.specs.Step.{taken, over};
 ghost use Rattle.state.specs.State.{freshActor, stepAs};
 
@@ -43,7 +44,7 @@ impl Actor {
     // Whether the sum of an Add would pass the largest number that a cell holds.
     pub fn runs_over(self, cell: usize, other: usize) -> bool
         requires { ⌜ (length (self .cells) ≡ 8) × (cell < 8) × (other < 8) ⌝ }
-        ensures { λ b. ⌜ b ≡ ltb largest (getD (self .cells) cell 0 + getD (self .cells) other 0) ⌝ }
+        ensures { λ b. ⌜ b ≡ runsOver (Add cell other) (self .cells) ⌝ }
     {
         let x = self.cells[cell];
         let y = self.cells[other];
@@ -53,7 +54,7 @@ impl Actor {
     // What an Add is as the next step.
     pub fn adding(self, cell: usize, other: usize) -> NextStep
         requires { ⌜ (length (self .cells) ≡ 8) × (cell < 8) × (other < 8) ⌝ }
-        ensures { λ s. ⌜ stepAs s ≡ cond (ltb largest (getD (self .cells) cell 0 + getD (self .cells) other 0)) over taken ⌝ }
+        ensures { λ s. ⌜ stepAs s ≡ cond (runsOver (Add cell other) (self .cells)) over taken ⌝ }
     {
         if self.runs_over(cell, other) {
             return NextStep::Over;
@@ -63,8 +64,8 @@ impl Actor {
 
     // Add: the sum, which must not run over.
     pub fn add(mut self, cell: usize, other: usize) -> Self
-        requires { ⌜ (length (self .cells) ≡ 8) × (cell < 8) × (other < 8) × (getD (self .cells) cell 0 + getD (self .cells) other 0 ≤ largest) ⌝ }
-        ensures { λ r. ⌜ (r .position ≡ self .position) × (r .cells ≡ set (self .cells) cell (getD (self .cells) cell 0 + getD (self .cells) other 0)) ⌝ }
+        requires { ⌜ (length (self .cells) ≡ 8) × (cell < 8) × (other < 8) × (total (Add cell other) (self .cells) ≤ largest) ⌝ }
+        ensures { λ r. ⌜ (r .position ≡ self .position) × (r .cells ≡ set (self .cells) cell (total (Add cell other) (self .cells))) ⌝ }
     {
         let x = self.cells[cell];
         let y = self.cells[other];

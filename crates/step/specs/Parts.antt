@@ -4,14 +4,14 @@ use Prim.Native.Nat.{ℕ, _+_, _<_, _≤_}
 use mathlib.Core.Path.{_≡_}
 use mathlib.Core.Bool.{cond}
 use mathlib.Core.List.{List}
-use lib.Dec.{ltb}
-use lib.ListN.{length, getD, set}
+use lib.ListN.{length, set}
 use Rattle.table.specs.declared.Action.{Action}
+use Rattle.table.specs.declared.Action.the-variants.{Add}
 use Rattle.table.specs.Format.{actorsOf, countOf}
 use Rattle.table.specs.Decode.{actionOf}
 use Rattle.table.specs.Promise.{WellFormed}
 use Rattle.model.specs.Site.{Mail, name}
-use Rattle.model.specs.Views.{looks, posts, sent, largest}
+use Rattle.model.specs.Views.{looks, posts, sent, total, runsOver}
 use Rattle.model.specs.Mutex.{queueing, join}
 use Rattle.model.specs.Mail.{mailing}
 use Rattle.model.specs.Local as Local
@@ -32,14 +32,14 @@ pub record Steppable (table : List ℕ) (a : ℕ) (r : Actor) (comms log ends qu
   pub tail-room : stepOf table (seenFrom r (mailOf comms log ends) (queuesOf queues)) a (nextOf table a r) ≡ taken → (n : ℕ) → tailIn ends n < 256
   pub join-room : (m : ℕ) → length (join (queuesOf queues m) a) ≤ 8
 
--- what a step with the record `next` leaves where it is taken
+-- where a step was taken, its record has this position and these cells
 abbrev pub After : Stepped → (position : ℕ) (cells : List ℕ) → Type 0
 After s position cells = stepAs (s .next) ≡ taken → (s .actor .position ≡ position) × (s .actor .cells ≡ cells)
 
 -- an Add of these cells: it runs over; or the record has the sum
 pub record Added (r : Actor) (cell other : ℕ) (s : Stepped) : Type 0 where
-  pub next-right : stepAs (s .next) ≡ cond (ltb largest (getD (r .cells) cell 0 + getD (r .cells) other 0)) over taken
-  pub after : After s (r .position + 1) (set (r .cells) cell (getD (r .cells) cell 0 + getD (r .cells) other 0))
+  pub next-right : stepAs (s .next) ≡ cond (runsOver (Add cell other) (r .cells)) over taken
+  pub after : After s (r .position + 1) (set (r .cells) cell (total (Add cell other) (r .cells)))
 
 -- a number that a look found is that of an action
 abbrev pub Picks : List ℕ → ℕ → Local.Seen → Type 0

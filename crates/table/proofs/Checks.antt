@@ -14,7 +14,7 @@ pub which : (test : Bool) → (test ≡ true) ⊎ (test ≡ false)
 which true = inl refl
 which false = inr refl
 
-refused-not : {n p : ℕ} {A : Type 0} → refused n p ≡ accepted → A
+pub refused-not : {n p : ℕ} {A : Type 0} → refused n p ≡ accepted → A
 refused-not e = let z : _≡_ {A = ℕ} 0 1 = cc in absurd (omega arith)
 
 pub then-left : (o after : Outcome) → (o ⨾ after) ≡ accepted → o ≡ accepted
