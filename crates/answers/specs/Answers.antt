@@ -7,6 +7,7 @@ use Rattle.table.specs.Answer.{outcome}
 use Rattle.model.specs.Schedule.{RefusalNumbers, firstNumbers, secondNumbers}
 use Rattle.model.specs.Ready as Model
 use Rattle.model.specs.Calls.{Result, gives, refuses, PairVerdict, independent, dependent, SameVerdict, same, different}
+use Rattle.model.specs.Recordings as Recordings
 use Rattle.answers.specs.declared.Stop.{Stop}
 use Rattle.answers.specs.declared.Stop.the-variants.{Absent, Finished, Waiting, Over}
 use Rattle.answers.specs.declared.Refusal.{Refusal}
@@ -22,6 +23,9 @@ use Rattle.answers.specs.declared.PairAnswer.{PairAnswer}
 use Rattle.answers.specs.declared.PairAnswer.the-variants as pair
 use Rattle.answers.specs.declared.SameAnswer.{SameAnswer}
 use Rattle.answers.specs.declared.SameAnswer.the-variants as same-answer
+use Rattle.answers.specs.declared.Recording.{Recording}
+use Rattle.answers.specs.declared.Recording.the-variants as recording
+use Rattle.answers.specs.declared.Part.{Part}
 
 -- ---- refusals
 
@@ -73,3 +77,10 @@ abbrev pub sameResult : SameAnswer → Result SameVerdict
 sameResult same-answer.Same = gives same
 sameResult same-answer.Different = gives different
 sameResult (same-answer.Refused r) = refusedBy r
+
+abbrev pub recordingOf : Recording → Recordings.Recording
+recordingOf recording.First = Recordings.theFirst
+recordingOf recording.Second = Recordings.theSecond
+
+abbrev pub partOf : Part → Recordings.Part
+partOf p = record { recording = recordingOf (p .recording); from = p .from; length = p .length }

@@ -132,9 +132,22 @@ pub enum PairAnswer {
     Refused(Refusal),
 }
 
-// The answer of same: whether a chain of exchanges turns the first schedule into the second.
+// The answer of same and prefix: whether a chain of exchanges turns the first schedule, or its part, into the second.
 pub enum SameAnswer {
     Same,
     Different,
     Refused(Refusal),
+}
+
+// One of two recordings.
+pub enum Recording {
+    First,
+    Second,
+}
+
+// A part of one of two recordings: from which entry on, and how many entries.
+pub struct Part {
+    pub recording: Recording,
+    pub from: usize,
+    pub length: usize,
 }

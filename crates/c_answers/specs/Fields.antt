@@ -1,17 +1,20 @@
--- The C structs' fields: `refusal` 0 where accepted, and then the answer; otherwise the refusal's number with its position, and 0 elsewhere.
+-- The C structs' fields: `refusal` 0 where accepted, and then the answer; otherwise the refusal's number with its position, and 0 elsewhere. A
+-- remainder has none of it.
 -- Assumes nothing: these are definitions.
-use Prim.Native.Nat.{ℕ}
+use Prim.Native.Nat.{ℕ, min}
 use mathlib.Core.Path.{_≡_}
 use mathlib.Core.List.{List}
 use Rattle.table.specs.Outcome.{Outcome, numberOf, positionOf}
 use Rattle.model.specs.Ready.{Ending, finished, stuck, going, ReadyAnswer}
 use Rattle.model.specs.Calls.{Result, gives, refuses, PairVerdict, independent, dependent, SameVerdict, same, different}
+use Rattle.model.specs.Recordings.{Recording, theFirst, theSecond, Part}
 use Rattle.model.specs.Route.{RightRoute}
 use Rattle.c_answers.specs.declared.OrderCheck.{OrderCheck}
 use Rattle.c_answers.specs.declared.OrderLength.{OrderLength}
 use Rattle.c_answers.specs.declared.OrderReady.{OrderReady}
 use Rattle.c_answers.specs.declared.OrderPair.{OrderPair}
 use Rattle.c_answers.specs.declared.OrderSame.{OrderSame}
+use Rattle.c_answers.specs.declared.OrderRemainder.{OrderRemainder}
 
 -- of a table that is read
 abbrev pub checkFields : Outcome → OrderCheck
@@ -43,9 +46,22 @@ abbrev pub sameNumber : SameVerdict → ℕ
 sameNumber different = 0
 sameNumber same = 1
 
+-- of same and prefix
 abbrev pub sameFields : Result SameVerdict → OrderSame
 sameFields (gives v) = record { refusal = 0; position = 0; verdict = sameNumber v }
 sameFields (refuses number position) = record { refusal = number; position = position; verdict = 0 }
+
+abbrev pub recordingNumber : Recording → ℕ
+recordingNumber theFirst = 1
+recordingNumber theSecond = 2
+
+-- a number that 32 bits do not hold is given as the largest that they do
+abbrev pub bounded : ℕ → ℕ
+bounded n = min n 4294967295
+
+-- the remainder call refuses nothing, so there is no refusal to tell
+abbrev pub remainderFields : Part → OrderRemainder
+remainderFields p = record { recording = recordingNumber (p .recording); from = bounded (p .from); length = bounded (p .length) }
 
 -- the fields of a right answer of the route call, with the buffer before and after it
 abbrev pub RightFields : (table first second before after : List ℕ) → OrderLength → Type 0

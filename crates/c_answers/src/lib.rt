@@ -1,15 +1,17 @@
 // The calls' answers as the structs of `include/order.h`. `refusal` is 0 where accepted, and then the answer follows; otherwise it is the refusal's number,
-// with its position. What does not apply is 0.
+// with its position. What does not apply is 0. A remainder is always given.
 ghost use mathlib.Core.Path.{_≡_};
 ghost use Rattle.table.specs.Answer.{outcome};
 ghost use Rattle.model.specs.Calls.{gives};
-ghost use Rattle.answers.specs.Answers.{lengthResult, readinessOf, endingAs, readyResult, pairResult, sameResult};
-ghost use Rattle.c_answers.specs.Fields.{checkFields, lengthFields, readyFields, endingNumber, pairFields, sameFields};
+ghost use Rattle.answers.specs.Answers.{lengthResult, readinessOf, endingAs, readyResult, pairResult, sameResult, recordingOf, partOf};
+ghost use Rattle.c_answers.specs.Fields.{checkFields, lengthFields, readyFields, endingNumber, pairFields, sameFields, recordingNumber, bounded, remainderFields};
 use answers::Ending;
 use answers::LengthAnswer;
 use answers::PairAnswer;
+use answers::Part;
 use answers::Readiness;
 use answers::ReadyAnswer;
+use answers::Recording;
 use answers::SameAnswer;
 use table::Reading;
 
@@ -160,4 +162,39 @@ pub fn same(answer: SameAnswer) -> OrderSame
             verdict: 0,
         },
     }
+}
+
+// Of which recording the remainder is, 1 the first and 2 the second, from which entry on and how many entries.
+#[repr(C)]
+pub struct OrderRemainder {
+    pub recording: u32,
+    pub from: u32,
+    pub length: u32,
+}
+
+pub fn remainder(part: Part) -> OrderRemainder
+    ensures { λ r. ⌜ r ≡ remainderFields (partOf part) ⌝ }
+{
+    let recording = part.recording;
+    OrderRemainder {
+        recording: recording_number(recording),
+        from: in_32_bits(part.from),
+        length: in_32_bits(part.length),
+    }
+}
+
+fn recording_number(recording: Recording) -> u32
+    ensures { λ r. ⌜ r ≡ recordingNumber (recordingOf recording) ⌝ }
+{
+    match recording {
+        Recording::First => 1,
+        Recording::Second => 2,
+    }
+}
+
+// A number that 32 bits do not hold becomes the largest that they do.
+fn in_32_bits(n: usize) -> u32
+    ensures { λ r. ⌜ r ≡ bounded n ⌝ }
+{
+    if n < 4294967295 { n as u32 } else { 4294967295 }
 }

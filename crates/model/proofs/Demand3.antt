@@ -119,7 +119,7 @@ module _ (table : List ℕ) (read : readOf table ≡ accepted) where
 
   -- ---- same
 
-  same-given : (p q : List ℕ) → Accepted table p → Accepted table q
+  pub same-given : (p q : List ℕ) → Accepted table p → Accepted table q
       → sameOf table p q ≡ gives (cond (equivalent (machine table) initial p q) same different)
   unfolding sameOf
   same-given p q hp hq =

@@ -49,6 +49,7 @@ pub mod Columns
 pub mod PageShape
 pub mod SamePages
 pub mod Over
+pub mod RecordingLaws
 pub mod TableBeginning
 pub mod Beginnings
 pub mod Cases
@@ -57,5 +58,6 @@ pub mod Reports
 pub mod Corners
 pub mod PageExamples
 pub mod OverExamples
+pub mod RecordingExamples
 pub mod Listings
 pub mod Forecourt

@@ -17,6 +17,7 @@ use Rattle.model.specs.Ready.{ReadyAnswer}
 use Rattle.model.specs.Report.{report}
 use Rattle.model.specs.Schedule.{machine, endState}
 use Rattle.model.specs.Calls.{Result, gives, refuses, Filled, reportRoom, runOf, readyOf, PairVerdict, pairOf, SameVerdict, sameOf}
+use Rattle.model.specs.Recordings.{prefixOf, Part, remainderOf, Slice, remainderIn}
 use Rattle.model.specs.Route.{routeChecks}
 use Rattle.model.specs.Text.{ascii, line}
 use Rattle.model.specs.Page.{pageRoom, pageOf}
@@ -72,6 +73,10 @@ pub data Question : Type 0 where
   ready : (table schedule : List ℕ) → Question
   pair : (table : List ℕ) (x y : Name) → Question
   areSame : (table first second : List ℕ) → Question
+  -- the verdict on two recordings; their remainder, by their lengths and as bytes where they stand
+  prefix : (table first second : List ℕ) → Question
+  remains : (firstLength secondLength : ℕ) → Question
+  remainder : (first second : Slice) → Question
   -- whether the positions are a route from the first schedule to the second; what the route call's checks give with a buffer of so many entries;
   -- how the two end
   isRoute : (table positions first second : List ℕ) → Question
@@ -90,6 +95,8 @@ pub data Answer : Type 0 where
   readied : Result ReadyAnswer → Answer
   paired : Result PairVerdict → Answer
   judged : Result SameVerdict → Answer
+  left : Part → Answer
+  handed : Slice → Answer
   routed : Bool → Answer
   ended : Ends → Answer
 
@@ -104,6 +111,9 @@ ask (page table schedule) = written (writtenBy (pageOf table schedule (replicate
 ask (ready table schedule) = readied (readyOf table schedule)
 ask (pair table x y) = paired (pairOf table x y)
 ask (areSame table first second) = judged (sameOf table first second)
+ask (prefix table first second) = judged (prefixOf table first second)
+ask (remains firstLength secondLength) = left (remainderOf firstLength secondLength)
+ask (remainder first second) = handed (remainderIn first second)
 ask (isRoute table positions first second) = routed (isChain (machine table) initial positions first second)
 ask (routeIn room table first second) = outcome (routeChecks table first second (replicate room 0))
 ask (ends table first second) = ended (compareEnds table first second)

@@ -12,6 +12,7 @@ pub mod Pair
 pub mod Report
 pub mod Schedule
 pub mod Calls
+pub mod Recordings
 pub mod Route
 pub mod Text
 pub mod Page
@@ -25,6 +26,7 @@ pub mod Reached
 pub mod Determined
 pub mod PageShape
 pub mod Over
+pub mod RecordingLaws
 pub mod Claims
 pub mod Cases
 pub mod Examples
@@ -32,5 +34,6 @@ pub mod Reports
 pub mod Corners
 pub mod PageExamples
 pub mod OverExamples
+pub mod RecordingExamples
 pub mod Listings
 pub mod Forecourt

@@ -1,14 +1,17 @@
 // The calls for C and Rust. A slice is a pointer and a number of elements. `include/order.h` has the prototypes.
 ghost use mathlib.Core.Path.{_≡_};
+ghost use lib.ListN.{length};
 ghost use Rattle.table.specs.Read.{readOf};
 ghost use Rattle.model.specs.Site.{name};
 ghost use Rattle.model.specs.Calls.{runOf, readyOf, pairOf, sameOf};
+ghost use Rattle.model.specs.Recordings.{prefixOf, remainderOf};
 ghost use Rattle.model.specs.Page.{pageOf};
-ghost use Rattle.c_answers.specs.Fields.{checkFields, lengthFields, readyFields, pairFields, sameFields, RightFields};
+ghost use Rattle.c_answers.specs.Fields.{checkFields, lengthFields, readyFields, pairFields, sameFields, remainderFields, RightFields};
 use c_answers::OrderCheck;
 use c_answers::OrderLength;
 use c_answers::OrderPair;
 use c_answers::OrderReady;
+use c_answers::OrderRemainder;
 use c_answers::OrderSame;
 
 // Whether a file is a task table.
@@ -65,6 +68,22 @@ pub extern "C" fn order_same(table: &[u8], first: &[u8], second: &[u8]) -> Order
     ensures { λ r. ⌜ r ≡ sameFields (sameOf (now (table .entry)) (now (first .entry)) (now (second .entry))) ⌝ }
 {
     c_answers::same(order::same(table, first, second))
+}
+
+// Whether two recordings are the same as far as both reach.
+#[no_mangle]
+pub extern "C" fn order_prefix(table: &[u8], first: &[u8], second: &[u8]) -> OrderSame
+    ensures { λ r. ⌜ r ≡ sameFields (prefixOf (now (table .entry)) (now (first .entry)) (now (second .entry))) ⌝ }
+{
+    c_answers::same(order::prefix(table, first, second))
+}
+
+// Which part of which recording is the remainder of the longer, by the two lengths.
+#[no_mangle]
+pub extern "C" fn order_remainder(first: &[u8], second: &[u8]) -> OrderRemainder
+    ensures { λ r. ⌜ r ≡ remainderFields (remainderOf (length (now (first .entry))) (length (now (second .entry)))) ⌝ }
+{
+    c_answers::remainder(remainder_call::part(first.len(), second.len()))
 }
 
 // Writes a route from the first schedule to the second: a chain of exchanges, each by its position.

@@ -11,6 +11,7 @@ pub mod Remove
 pub mod SameNames
 pub mod Pull
 pub mod Verdict
+pub mod Symmetric
 pub mod SameChained
 pub mod Count
 pub mod Inversions

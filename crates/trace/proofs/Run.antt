@@ -45,6 +45,11 @@ module _ (M : Machine) where
   pub rest-accepted : (s : M .State) (a : ℕ) (p : List ℕ) → accepted M s (a ∷ p) ≡ true → accepted M (M .step s a) p ≡ true
   rest-accepted s a p h = and-right (M .ready s a) (accepted M (M .step s a) p) h
 
+  -- after an accepted beginning, the rest decides
+  pub accepted-after : (s : M .State) (p q : List ℕ) → accepted M s p ≡ true → accepted M s (p ++ q) ≡ accepted M (final M s p) q
+  accepted-after s [] q h = refl
+  accepted-after s (a ∷ p) q h = rw (first-ready s a p h) (accepted-after (M .step s a) p q (rest-accepted s a p h))
+
 module _ {M : Machine} {Inv : M .State → Type 0} (L : Laws M Inv) where
   pub inv-final : (s : M .State) (p : List ℕ) → Inv s → accepted M s p ≡ true → Inv (final M s p)
   inv-final s [] i h = i

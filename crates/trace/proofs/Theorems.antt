@@ -16,6 +16,7 @@ use Rattle.trace.specs.Theorems.{ShortestRoute, Theorems}
 use Rattle.trace.proofs.Run.{stays-ready, names-distinct, names-length}
 use Rattle.trace.proofs.Keeps.{keeps-run, chain-reaches, chain-linked}
 use Rattle.trace.proofs.SameChained.{same-names, route-chain, same-chained}
+use Rattle.trace.proofs.Symmetric.{same-symmetric}
 use Rattle.trace.proofs.Inversions.{route-length, no-shorter, inversions-bound}
 
 module _ {M : Machine} {Inv : M .State → Type 0} (L : Laws M Inv) (s : M .State) (i : Inv s) where
@@ -39,4 +40,10 @@ module _ {M : Machine} {Inv : M .State → Type 0} (L : Laws M Inv) (s : M .Stat
 
   pub theorems : Theorems M s
   theorems =
-      record { chains = keeps-run L s i; readiness = stays-ready L s i; same-chained = same-chained L s i; shortest-route = shortest-route }
+      record {
+        chains = keeps-run L s i;
+        readiness = stays-ready L s i;
+        same-chained = same-chained L s i;
+        shortest-route = shortest-route;
+        same-symmetric = same-symmetric L s;
+      }

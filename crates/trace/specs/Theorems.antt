@@ -46,3 +46,5 @@ pub record Theorems (M : Machine) (s : M .State) : Type 0 where
   pub same-chained : (p q : List ℕ) → accepted M s p ≡ true → accepted M s q ≡ true → (equivalent M s p q ≡ true) ↔ Chained M s p q
   -- T4: between two accepted schedules that are the same, the route is a shortest chain
   pub shortest-route : (p q : List ℕ) → accepted M s p ≡ true → accepted M s q ≡ true → equivalent M s p q ≡ true → ShortestRoute M s p q
+  -- T5: which of two schedules is called the first makes no difference
+  pub same-symmetric : (p q : List ℕ) → equivalent M s q p ≡ equivalent M s p q

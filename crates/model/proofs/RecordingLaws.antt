@@ -1,0 +1,190 @@
+-- Two recordings: what the verdict on them looks at and says, either way round; and that the longer goes on from the shorter one's end.
+-- Assumes nothing.
+use Prim.Native.Nat.{ℕ, _+_, _-_, _≤_, _<_}
+use native.Mathlib.Nat.{zero-add}
+use native.Mathlib.Omega.{arith}
+use mathlib.Core.Path.{_≡_, refl, sym, _∙_, ap, ap₂, subst}
+use mathlib.Core.Logic.{_⊎_, inl, inr, _↔_}
+use mathlib.Core.Bool.{Bool, true, false, cond}
+use mathlib.Core.List.{List, _++_}
+use borrow.Author.Tests.{ltb-true, ltb-false}
+use lib.Dec.{ltb}
+use lib.ListN.{length, take, drop, length-append, length-drop, take-append-drop}
+use lib.Seq.{take-all, take-at}
+use Rattle.table.specs.Outcome.{accepted}
+use Rattle.table.specs.Read.{readOf}
+use Rattle.table.proofs.Checks.{then-left, then-right}
+use Rattle.trace.specs.Schedule.{accepted as all-taken, final}
+use Rattle.trace.specs.Chain.{Chained}
+use Rattle.trace.specs.Same.{equivalent}
+use Rattle.trace.proofs.Bools.{which}
+use Rattle.trace.proofs.Run.{final-append, accepted-append, accepted-after}
+use Rattle.model.specs.Site.{Site, initial}
+use Rattle.model.specs.Schedule.{machine, endState, firstNumbers, secondNumbers, checkFrom, checkSchedule}
+use Rattle.model.specs.Calls.{gives, SameVerdict, same, different, sameChecks, sameOf}
+use Rattle.model.specs.Demand3.{Accepted, EndsAlike}
+use Rattle.model.specs.Over.{GoOnAlike}
+use Rattle.model.specs.Recordings.{held, prefixOf, theFirst, theSecond, choose, Part, remainderOf}
+use Rattle.model.specs.RecordingLaws.{left, longer, shorter, remainder, Split, Continues, EveryRecording}
+use Rattle.model.proofs.Checks.{given-accepted, checks-after, checks-taken}
+use Rattle.model.proofs.Demand3.{site-theorems, same-given, demand-3}
+use Rattle.model.proofs.Over.{every-over}
+
+-- ---- by the two lengths
+
+-- the remainder is of the second, or of the first
+pub by-lengths : (m n : ℕ) (P : Part → Type 0)
+    → (m < n → P (record { recording = theSecond; from = m; length = n - m }))
+    → (n ≤ m → P (record { recording = theFirst; from = n; length = m - n }))
+    → P (remainderOf m n)
+by-lengths m n P under over = go (which (ltb m n))
+  where
+    of : Bool → Part
+    of b = cond b (record { recording = theSecond; from = m; length = n - m }) (record { recording = theFirst; from = n; length = m - n })
+
+    go : (ltb m n ≡ true) ⊎ (ltb m n ≡ false) → P (of (ltb m n))
+    go (inl h) = subst (λ (b : Bool). P (of b)) (sym h) (under (ltb-true m n h))
+    go (inr h) = subst (λ (b : Bool). P (of b)) (sym h) (over (ltb-false m n h))
+
+split-at : (short long : List ℕ) → length short ≤ length long
+    → Split short long (take (length long - length short) (drop (length short) long)) (length short) (length long - length short)
+split-at short long h =
+    let tail : List ℕ = drop (length short) long in
+    let n : ℕ = length long - length short in
+    let all : take n tail ≡ tail = take-all n tail (omega (arith, length-drop (length short) long)) in
+    record {
+      short = take-all (length long) short h;
+      long = rw (all, take-append-drop (length short) long);
+      begins = refl;
+      counts = sym (ap length all ∙ length-drop (length short) long);
+    }
+
+split-of : (p q : List ℕ) → Split (shorter p q) (longer p q) (remainder p q) (left p q .from) (left p q .length)
+split-of p q =
+    by-lengths (length p) (length q)
+    (λ (x : Part).
+    Split (choose (x .recording) q p) (choose (x .recording) p q) (take (x .length) (drop (x .from) (choose (x .recording) p q))) (x .from) (x .length))
+    (λ h. split-at p q (omega arith))
+    (λ h. split-at q p h)
+
+module _ (table : List ℕ) where
+  -- ---- what the verdict looks at
+
+  -- of the shorter all
+  pub first-whole : (p q : List ℕ) → length p ≤ length q → prefixOf table p q ≡ sameOf table p (take (length p) q)
+  unfolding prefixOf
+  first-whole p q l = ap (λ (r : List ℕ). sameOf table r (take (length p) q)) (take-all (length q) p l)
+
+  pub second-whole : (p q : List ℕ) → length q ≤ length p → prefixOf table p q ≡ sameOf table (take (length q) p) q
+  unfolding prefixOf
+  second-whole p q l = ap (sameOf table (take (length q) p)) (take-all (length p) q l)
+
+  unseen-first : (p q more : List ℕ) → length p ≡ length q → prefixOf table (p ++ more) q ≡ sameOf table p q
+  unseen-first p q more e =
+      second-whole (p ++ more) q (omega (arith, length-append p more)) ∙ ap (λ (r : List ℕ). sameOf table r q) (take-at p more (length q) e)
+
+  unseen-second : (p q more : List ℕ) → length p ≡ length q → prefixOf table p (q ++ more) ≡ sameOf table p q
+  unseen-second p q more e =
+      first-whole p (q ++ more) (omega (arith, length-append q more)) ∙ ap (sameOf table p) (take-at q more (length p) (sym e))
+
+  equal-lengths : (p q : List ℕ) → length p ≡ length q → prefixOf table p q ≡ sameOf table p q
+  equal-lengths p q e = first-whole p q (omega arith) ∙ ap (sameOf table p) (take-all (length p) q (omega arith))
+
+  held-accepted : (p q : List ℕ) → Accepted table p → Accepted table (held p q)
+  held-accepted p q h =
+      accepted-append (machine table) initial (take (length q) p) (drop (length q) p) (rw (take-append-drop (length q) p) h) .0
+
+  -- ---- what it says
+
+  both-accepted : (p q : List ℕ) (v : SameVerdict) → sameOf table p q ≡ gives v → Accepted table p × Accepted table q
+  unfolding sameOf
+  both-accepted p q v h =
+      let checks = then-right (readOf table) _ (given-accepted (sameChecks table p q) (cond (equivalent (machine table) initial p q) same different) v h) in (
+        checks-taken table firstNumbers initial 0 p (then-left (checkSchedule firstNumbers table p) _ checks),
+        checks-taken table secondNumbers initial 0 q (then-right (checkSchedule firstNumbers table p) _ checks),
+      )
+
+  module _ (read : readOf table ≡ accepted) where
+    called-same : (p q : List ℕ)
+        → (sameOf table p q ≡ gives same) ↔ (Accepted table p × Accepted table q × Chained (machine table) initial p q)
+    called-same p q = (
+      λ h. let a = both-accepted p q same h in (a .0, a .1, demand-3 table read .called-same p q (a .0) (a .1) .0 h),
+      λ c. demand-3 table read .called-same p q (c .0) (c .1) .1 (c .2),
+    )
+
+    called-different : (p q : List ℕ)
+        → (sameOf table p q ≡ gives different) ↔ (Accepted table p × Accepted table q × (¬ Chained (machine table) initial p q))
+    called-different p q = (
+      λ h. let a = both-accepted p q different h in (a .0, a .1, demand-3 table read .called-different p q (a .0) (a .1) .0 h),
+      λ c. demand-3 table read .called-different p q (c .0) (c .1) .1 (c .2),
+    )
+
+    same-either-way : (p q : List ℕ) (v : SameVerdict) → sameOf table p q ≡ gives v → sameOf table q p ≡ gives v
+    same-either-way p q v h =
+        let a = both-accepted p q v h in
+        same-given table read q p (a .1) (a .0)
+        ∙ ap (λ (b : Bool). gives (cond b same different)) (site-theorems table .same-symmetric p q)
+        ∙ sym (same-given table read p q (a .0) (a .1))
+        ∙ h
+
+    -- ---- the longer goes on
+
+    goes-on : (part short rest : List ℕ) → sameOf table part short ≡ gives same → Continues table short (part ++ rest) rest
+    goes-on part short rest h =
+        let c = called-same part short .0 h in
+        let end : endState table short ≡ endState table part = demand-3 table read .chains (c .2 .0) part short (c .0) (c .2 .1) .1 .ends in
+        let alike : GoOnAlike table part short rest = every-over table read .exchanged (c .2 .0) part short rest (c .0) (c .2 .1) .1 in
+        record {
+          ends = final-append (machine table) initial part rest ∙ ap (λ (s : Site). final (machine table) s rest) (sym end);
+          accepts =
+              accepted-after (machine table) initial part rest (c .0) ∙ ap (λ (s : Site). all-taken (machine table) s rest) (sym end);
+          checks =
+              λ n.
+              sym (alike .checks n) ∙ checks-after table n initial 0 short rest (c .1)
+              ∙ ap (λ (k : ℕ). checkFrom n table (endState table short) k rest) (zero-add (length short));
+          readies = sym (alike .readies);
+          runs = λ buffer. sym (alike .runs buffer);
+          pages = λ buffer. sym (alike .pages buffer);
+        }
+
+    continues-at : (short long : List ℕ) → length short ≤ length long → prefixOf table long short ≡ gives same
+        → Continues table short long (take (length long - length short) (drop (length short) long))
+    unfolding prefixOf
+    continues-at short long l h =
+        let rest : List ℕ = take (length long - length short) (drop (length short) long) in
+        let parts = split-at short long l in
+        subst (λ (r : List ℕ). Continues table short r rest) (parts .long) (goes-on (held long short) short rest (rw (parts .short) at h))
+
+    either-way : (p q : List ℕ) (v : SameVerdict) → prefixOf table p q ≡ gives v → prefixOf table q p ≡ gives v
+    unfolding prefixOf
+    either-way p q v h = same-either-way (held p q) (held q p) v h
+
+    continues : (p q : List ℕ) → prefixOf table p q ≡ gives same → Continues table (shorter p q) (longer p q) (remainder p q)
+    continues p q h =
+        by-lengths (length p) (length q)
+        (λ (x : Part).
+        Continues table (choose (x .recording) q p) (choose (x .recording) p q) (take (x .length) (drop (x .from) (choose (x .recording) p q))))
+        (λ l. continues-at p q (omega arith) (either-way p q same h))
+        (λ l. continues-at q p l h)
+
+    accepted-judged : (p q : List ℕ) → Accepted table p → Accepted table q → (v : SameVerdict) × (prefixOf table p q ≡ gives v)
+    unfolding prefixOf
+    accepted-judged p q hp hq = (
+      cond (equivalent (machine table) initial (held p q) (held q p)) same different,
+      same-given table read (held p q) (held q p) (held-accepted p q hp) (held-accepted q p hq),
+    )
+
+pub every-recording : EveryRecording
+unfolding prefixOf
+every-recording table read =
+    record {
+      split = split-of;
+      equal-lengths = equal-lengths table;
+      unseen = λ p q more e. (unseen-first table p q more e, unseen-second table p q more e);
+      called-same = λ p q. called-same table read (held p q) (held q p);
+      called-different = λ p q. called-different table read (held p q) (held q p);
+      accepted-judged = accepted-judged table read;
+      either-way = either-way table read;
+      same-either-way = same-either-way table read;
+      continues = continues table read;
+    }
