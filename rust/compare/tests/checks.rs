@@ -1,7 +1,7 @@
 //! What every call is held to, with engines made up for each mistake: it is found, and shown with its
 //! input.
 
-use compare::calls::{run, same};
+use compare::calls::{remainder, run, same};
 use compare::harness::call::Call;
 use compare::harness::sides::difference;
 use compare::harness::slots::{Input, Lent};
@@ -90,6 +90,26 @@ fn a_number_beside_a_refusal() {
     };
     let said = said(&WRONG, &input(&[1, 1]));
     assert!(said.contains("refused 13 at 1 with values [1, 0, 0] that have to be 0"));
+}
+
+#[test]
+fn a_remainder_of_the_other_recording() {
+    static WRONG: Call = Call {
+        engine: |lent| {
+            let mut answer = (remainder::CALL.engine)(lent);
+            answer.values[0] = 3 - answer.values[0];
+            answer
+        },
+        ..remainder::CALL
+    };
+    let input = Input {
+        read: [vec![0, 1], vec![1, 0], Vec::new()],
+        ..Input::default()
+    };
+    let said = said(&WRONG, &input);
+    assert!(said.contains("engine:          accepted, values [2, 2, 0]"));
+    assert!(said.contains("reference:       accepted, values [1, 2, 0]"));
+    assert!(difference(&remainder::CALL, &input).is_none());
 }
 
 #[test]
