@@ -107,8 +107,8 @@ fn a_remainder_of_the_other_recording() {
         ..Input::default()
     };
     let said = said(&WRONG, &input);
-    assert!(said.contains("engine:          accepted, values [2, 2, 0]"));
-    assert!(said.contains("reference:       accepted, values [1, 2, 0]"));
+    assert!(said.contains("engine:           accepted, values [2, 2, 0]"));
+    assert!(said.contains("reference:        accepted, values [1, 2, 0]"));
     assert!(difference(&remainder::CALL, &input).is_none());
 }
 
@@ -121,7 +121,7 @@ fn a_panic_comes_with_its_input() {
     let said = said(&WRONG, &input(&[0, 1]));
     assert!(said.contains("made up"), "{said}");
     assert!(
-        said.contains("schedule:        2 entries: [0, 1]"),
+        said.contains("schedule:         2 entries: [0, 1]"),
         "{said}"
     );
     assert!(said.contains("44 bytes: 01 02 01 00 0c"), "{said}");

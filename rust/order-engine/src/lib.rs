@@ -2,7 +2,8 @@
 //!
 //! The engine is written and proved in Rattle and linked as a static library. The proof ends at the
 //! library's boundary: this crate passes each slice as a pointer and a length, and turns each answer
-//! into a [`Result`]. A refusal tells its number, its position and a sentence.
+//! into a [`Result`]; but [`remainder()`] refuses nothing. A refusal tells its number, its position and a
+//! sentence.
 //!
 //! - [`check()`]: whether a file is a task table;
 //! - [`run()`], [`ready()`] and [`page()`]: what a schedule leads to, as a [`Report`], who is ready then,

@@ -18,7 +18,8 @@ unsafe extern "C" {
 /// The verdict of [`same`](crate::same()) on two recordings, the longer of which is held to the length of
 /// the shorter. [`remainder`](crate::remainder()) is what is left of it.
 ///
-/// Refusals: as [`same`](crate::same()), of those parts. Entries of the remainder are not stepped.
+/// Refusals: 1 to 9, then 11 to 13 and 21 for the first part, then 14 to 16 and 22 for the second. Entries
+/// of the remainder are not stepped.
 ///
 /// ```
 /// // Two actors with a Set each.
