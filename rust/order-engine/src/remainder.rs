@@ -62,6 +62,6 @@ pub fn remainder<'a>(first: &'a [u8], second: &'a [u8]) -> &'a [u8] {
 /// The answer as C has it.
 pub fn fields(first: &[u8], second: &[u8]) -> Remainder {
     // SAFETY: pointers and lengths are those of slices that are borrowed throughout the call, which
-    // only reads them.
+    // looks at the lengths alone.
     unsafe { order_remainder(first.as_ptr(), first.len(), second.as_ptr(), second.len()) }
 }
