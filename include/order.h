@@ -6,9 +6,10 @@
  * pointer may be null. Otherwise it points at so many elements and is aligned for their type. A slice
  * that is written shares no byte with another.
  *
- * In every answer `refusal` is 0 where the call accepted, otherwise the number of the refusal, and
- * `position` is its position; the other fields are then 0. A call that refuses changes nothing that
- * it was lent. docs/FORMAT.md says what the bytes of a table, of a report and of a page are.
+ * In every answer but that of order_remainder, which refuses nothing, `refusal` is 0 where the call
+ * accepted, otherwise the number of the refusal, and `position` is its position; the other fields are
+ * then 0. A call that refuses changes nothing that it was lent. docs/FORMAT.md says what the bytes of a
+ * table, of a report and of a page are.
  */
 #ifndef ORDER_H
 #define ORDER_H
@@ -175,6 +176,34 @@ typedef struct {
  */
 OrderSame order_same(const uint8_t *table, size_t table_length, const uint8_t *first, size_t first_length,
                      const uint8_t *second, size_t second_length);
+
+/* The same verdict on two recordings as far as both go: the longer is held to the length of the shorter, and
+ * entries after that are not stepped. Refusals of these parts, in this order: 1 to 9; 11 to 13 and 21; 14 to 16
+ * and 22.
+ */
+OrderSame order_prefix(const uint8_t *table, size_t table_length, const uint8_t *first, size_t first_length,
+                       const uint8_t *second, size_t second_length);
+
+/* Which of two recordings. */
+enum OrderRecording {
+    ORDER_FIRST = 1,
+    ORDER_SECOND = 2
+};
+
+/* A remainder: the last `length` entries of `recording`, an OrderRecording, from index `from` on. A number past
+ * 4,294,967,295 is given as 4,294,967,295.
+ */
+typedef struct {
+    uint32_t recording;
+    uint32_t from;
+    uint32_t length;
+} OrderRemainder;
+
+/* The remainder of the longer recording after the length of the shorter; with equal lengths the empty end of the
+ * first. It looks at the two lengths only and refuses nothing.
+ */
+OrderRemainder order_remainder(const uint8_t *first, size_t first_length, const uint8_t *second,
+                               size_t second_length);
 
 /* The entries that order_route wants lent for schedules of m entries: m (m - 1) / 2. A constant where m is one;
  * m is evaluated twice.

@@ -62,6 +62,7 @@ void ready_refused(Lent lent, uint32_t number, uint32_t position);
 void page_refused(Lent lent, uint32_t number, uint32_t position);
 void pair_refused(Lent lent, const uint8_t steps[4], uint32_t number, uint32_t position);
 void same_refused(Lent lent, uint32_t number, uint32_t position);
+void prefix_refused(Lent lent, uint32_t number, uint32_t position);
 void route_refused(Lent lent, uint32_t number, uint32_t position);
 
 /* An entry of a schedule of this table refused, by every call: `number` in the only schedule or the first of two,
@@ -84,6 +85,7 @@ void stepping(void);
 void lines(void);
 void sums(void);
 void verdicts(void);
+void recordings(void);
 void empty_slices(void);
 
 #endif

@@ -1,4 +1,6 @@
-/* `NULL, 0` for every slice of every call: each alone, and all together. What is still lent is compared. */
+/* `NULL, 0` for every slice of every call: each alone, and all together. What is still lent is compared.
+ * order_remainder's are in recordings.c.
+ */
 #include "checks.h"
 
 static const uint8_t first[] = {0, 0, 1, 1}, second[] = {1, 0, 0, 1};
@@ -70,8 +72,8 @@ static void pages(void)
 
 static void expect_verdict(OrderSame answer, uint32_t verdict)
 {
-    expect_number(answer.refusal, ORDER_ACCEPTED, "order_same without a schedule", "the refusal");
-    expect_number(answer.verdict, verdict, "order_same without a schedule", "the verdict");
+    expect_number(answer.refusal, ORDER_ACCEPTED, "a verdict without a schedule", "the refusal");
+    expect_number(answer.verdict, verdict, "a verdict without a schedule", "the verdict");
 }
 
 static void sames(void)
@@ -87,6 +89,21 @@ static void sames(void)
     expect_verdict(answer, ORDER_DIFFERENT);
     expect_verdict(order_same(lent.table, lent.table_length, NULL, 0, NULL, 0), ORDER_SAME);
     expect_kept(&lent, 0, 0, "order_same");
+}
+
+static void prefixes(void)
+{
+    Lent lent = both();
+    OrderSame answer = order_prefix(NULL, 0, lent.first, lent.first_length, lent.second, lent.second_length);
+    expect_same_refused(answer, ORDER_REFUSED_SHORT_TABLE, 0);
+    expect_same_refused(order_prefix(NULL, 0, NULL, 0, NULL, 0), ORDER_REFUSED_SHORT_TABLE, 0);
+
+    answer = order_prefix(lent.table, lent.table_length, NULL, 0, lent.second, lent.second_length);
+    expect_verdict(answer, ORDER_SAME);
+    answer = order_prefix(lent.table, lent.table_length, lent.first, lent.first_length, NULL, 0);
+    expect_verdict(answer, ORDER_SAME);
+    expect_verdict(order_prefix(lent.table, lent.table_length, NULL, 0, NULL, 0), ORDER_SAME);
+    expect_kept(&lent, 0, 0, "order_prefix");
 }
 
 static void expect_no_exchange(OrderRoute answer)
@@ -127,5 +144,6 @@ void empty_slices(void)
     readies();
     pages();
     sames();
+    prefixes();
     routes();
 }

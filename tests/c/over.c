@@ -30,6 +30,8 @@ void sums(void)
     };
     entry_refused(totals, sizeof totals, doubled, 2, ORDER_REFUSED_OVER, ORDER_REFUSED_SECOND_OVER, 1);
     entry_refused(totals, sizeof totals, added, 4, ORDER_REFUSED_OVER, ORDER_REFUSED_SECOND_OVER, 3);
+    prefix_refused(lend(totals, sizeof totals, stuck, 4, doubled, 2), ORDER_REFUSED_SECOND_OVER, 1);
+    prefix_refused(lend(totals, sizeof totals, stuck, 2, doubled, 2), ORDER_REFUSED_SECOND_OVER, 1);
     ready_is(after(doubled, 1), 2, 1, ORDER_GOING);
     ready_is(after(added, 1), 3, 2, ORDER_GOING);
     ready_is(after(added, 2), 3, 2, ORDER_GOING);

@@ -94,6 +94,14 @@ void same_refused(Lent lent, uint32_t number, uint32_t position)
     expect_kept(&lent, 0, 0, "order_same");
 }
 
+void prefix_refused(Lent lent, uint32_t number, uint32_t position)
+{
+    OrderSame answer = order_prefix(lent.table, lent.table_length, lent.first, lent.first_length, lent.second,
+                                    lent.second_length);
+    expect_same_refused(answer, number, position);
+    expect_kept(&lent, 0, 0, "order_prefix");
+}
+
 void route_refused(Lent lent, uint32_t number, uint32_t position)
 {
     OrderRoute answer = order_route(lent.table, lent.table_length, lent.first, lent.first_length, lent.second,
@@ -114,6 +122,7 @@ void entry_refused(const uint8_t *table, size_t table_length, const uint8_t *sch
     lent = lend(table, table_length, schedule, length, absent, 1);
     same_refused(lent, number, position);
     route_refused(lent, number, position);
+    prefix_refused(lend(table, table_length, schedule, length, schedule, length), number, position);
     lent = lend(table, table_length, schedule, 0, schedule, length);
     same_refused(lent, second, position);
     route_refused(lent, second, position);

@@ -14,6 +14,7 @@ static void table_refused(const uint8_t *table, size_t length, uint32_t number, 
     page_refused(lent, number, position);
     pair_refused(lent, steps, number, position);
     same_refused(lent, number, position);
+    prefix_refused(lent, number, position);
     route_refused(lent, number, position);
 }
 

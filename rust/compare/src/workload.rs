@@ -21,6 +21,8 @@ pub struct Work {
     pub first: Vec<u8>,
     /// The same steps, lower actors' as early as can be.
     pub second: Vec<u8>,
+    /// The steps of [`Self::part`] likewise: a recording that begins as the first schedule does.
+    pub begun: Vec<u8>,
     /// A step of the first actor and one of the last.
     pub steps: [StepName; 2],
 }
@@ -28,8 +30,12 @@ pub struct Work {
 impl Work {
     /// Three quarters of the first schedule: actors are left.
     pub fn part(&self) -> &[u8] {
-        &self.first[..self.first.len() / 4 * 3]
+        part(&self.first)
     }
+}
+
+fn part(schedule: &[u8]) -> &[u8] {
+    &schedule[..schedule.len() / 4 * 3]
 }
 
 /// Inputs that are measured together, one after the other.
@@ -56,6 +62,7 @@ pub fn loads() -> Vec<Load> {
                 table: TABLE_A.to_vec(),
                 first: vec![0, 0, 1, 1],
                 second: vec![1, 0, 0, 1],
+                begun: vec![1, 0, 0],
                 steps: [StepName::new(0, 1), StepName::new(1, 1)],
             }],
         },
@@ -84,10 +91,12 @@ fn made(rng: &mut Rng, shape: impl Fn() -> Shape) -> Vec<Work> {
         let steps = [last(0), last(counts.len() - 1)];
         let checked = check(&sample.bytes).expect("the table is right");
         let second = by_actor(&checked, &first);
+        let begun = by_actor(&checked, part(&first));
         Work {
             table: sample.bytes,
             first,
             second,
+            begun,
             steps,
         }
     });

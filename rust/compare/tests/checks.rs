@@ -1,7 +1,7 @@
 //! What every call is held to, with engines made up for each mistake: it is found, and shown with its
 //! input.
 
-use compare::calls::{run, same};
+use compare::calls::{remainder, run, same};
 use compare::harness::call::Call;
 use compare::harness::sides::difference;
 use compare::harness::slots::{Input, Lent};
@@ -93,6 +93,26 @@ fn a_number_beside_a_refusal() {
 }
 
 #[test]
+fn a_remainder_of_the_other_recording() {
+    static WRONG: Call = Call {
+        engine: |lent| {
+            let mut answer = (remainder::CALL.engine)(lent);
+            answer.values[0] = 3 - answer.values[0];
+            answer
+        },
+        ..remainder::CALL
+    };
+    let input = Input {
+        read: [vec![0, 1], vec![1, 0], Vec::new()],
+        ..Input::default()
+    };
+    let said = said(&WRONG, &input);
+    assert!(said.contains("engine:           accepted, values [2, 2, 0]"));
+    assert!(said.contains("reference:        accepted, values [1, 2, 0]"));
+    assert!(difference(&remainder::CALL, &input).is_none());
+}
+
+#[test]
 fn a_panic_comes_with_its_input() {
     static WRONG: Call = Call {
         engine: |_| panic!("made up"),
@@ -101,7 +121,7 @@ fn a_panic_comes_with_its_input() {
     let said = said(&WRONG, &input(&[0, 1]));
     assert!(said.contains("made up"), "{said}");
     assert!(
-        said.contains("schedule:        2 entries: [0, 1]"),
+        said.contains("schedule:         2 entries: [0, 1]"),
         "{said}"
     );
     assert!(said.contains("44 bytes: 01 02 01 00 0c"), "{said}");

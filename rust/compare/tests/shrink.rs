@@ -1,6 +1,6 @@
 //! Shrinking, with a mistake made up for each: what is left is what it takes.
 
-use compare::calls::{check, run};
+use compare::calls::{check, prefix, remainder, run};
 use compare::harness::call::Call;
 use compare::harness::shrink::shrink;
 use compare::harness::slots::Input;
@@ -13,7 +13,8 @@ fn shrunk(call: &Call, mut differs: impl FnMut(&Input) -> bool) -> Input {
     let mut input = Input::default();
     loop {
         (call.next)(&mut rng, &mut input);
-        if input.read[0].len() > 400 && differs(&input) {
+        let lengths = input.read.each_ref().map(Vec::len);
+        if lengths.iter().sum::<usize>() > 400 && differs(&input) {
             return shrink(input, &call.slots, &mut differs);
         }
     }
@@ -64,6 +65,28 @@ fn a_value_received_and_picked_up() {
     assert!(least.read[0].len() <= 12 + 3 * 8, "{least:?}");
     assert_eq!(least.read[1].len(), 3);
     assert_eq!(least.read[0][2..4], [1, 0]);
+}
+
+#[test]
+fn a_bad_entry_after_the_cut() {
+    let stepped = |input: &Input| {
+        let [table, first, second] = input.slices();
+        let answers = [reference::prefix, reference::same].map(|call| call(table, first, second));
+        answers[0] == Ok(true) && answers[1].is_err_and(|refusal| refusal.number() == 14)
+    };
+    let least = shrunk(&prefix::CALL, stepped);
+    assert_eq!(least.read[0], [1, 1, 0, 0, 8, 0, 0, 0]);
+    assert_eq!(least.read[1..], [vec![], vec![1]]);
+}
+
+#[test]
+fn recordings_of_equal_lengths() {
+    let equal = |input: &Input| {
+        let [first, second, _] = input.slices();
+        first.len() == second.len() && first.len() >= 2
+    };
+    let least = shrunk(&remainder::CALL, equal);
+    assert_eq!(least.read, [vec![0; 2], vec![0; 2], vec![]]);
 }
 
 #[test]

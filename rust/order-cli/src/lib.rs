@@ -7,7 +7,7 @@
 //! - [`words`]: a step in words, [`rule`]: why two steps are dependent, [`waits`]: what a step waits
 //!   for, [`over`]: why an Add runs over, [`posts`]: what became of a Send or a Receive;
 //! - [`names`]: the steps that a schedule runs, [`state`]: where it leads to, [`difference`]: how two
-//!   of them differ;
+//!   of them differ, [`recordings`]: what two have that need not end together;
 //! - [`refusals`]: what a refusal points at.
 
 #![forbid(unsafe_code)]
@@ -23,6 +23,7 @@ pub mod names;
 pub mod operand;
 pub mod over;
 pub mod posts;
+pub mod recordings;
 pub mod refusals;
 pub mod rule;
 pub mod schedule;

@@ -5,7 +5,7 @@
 //! ```
 
 use order_engine::{PAGE_ROOM, REPORT_ROOM, Reason, Refusal, StepName};
-use order_engine::{page, pair, ready, route, route_room, run, same};
+use order_engine::{page, pair, prefix, ready, remainder, route, route_room, run, same};
 use tables::TABLE_A;
 
 fn main() -> Result<(), Refusal> {
@@ -39,6 +39,12 @@ fn main() -> Result<(), Refusal> {
         let mut buffer = [0; route_room(4)];
         let route = route(&TABLE_A, &one, &other, &mut buffer)?;
         println!("one run: exchanges at {route:?}");
+    }
+
+    // Two recordings, one of which ends earlier.
+    if prefix(&TABLE_A, &one, &other[..3])?.is_same() {
+        let left = remainder(&one, &other[..3]);
+        println!("one run as far as both go; left over: {left:?}");
     }
 
     // Orders that cannot happen.

@@ -2,8 +2,8 @@
 
 use crate::refusal::Refusal;
 
-/// A C struct of `2 + N` numbers of 32 bits. The structs of `include/order.h` differ only in how
-/// many values follow the first two fields, and in their names.
+/// A C struct of `2 + N` numbers of 32 bits. The structs of `include/order.h`, but for that of a
+/// remainder, differ only in how many values follow the first two fields, and in their names.
 #[repr(C)]
 #[derive(Clone, Copy, PartialEq, Eq, Hash, Debug)]
 pub struct Fields<const N: usize> {

@@ -2,13 +2,16 @@
 //!
 //! The engine is written and proved in Rattle and linked as a static library. The proof ends at the
 //! library's boundary: this crate passes each slice as a pointer and a length, and turns each answer
-//! into a [`Result`]. A refusal tells its number, its position and a sentence.
+//! into a [`Result`]; but [`remainder()`] refuses nothing. A refusal tells its number, its position and a
+//! sentence.
 //!
 //! - [`check()`]: whether a file is a task table;
 //! - [`run()`], [`ready()`] and [`page()`]: what a schedule leads to, as a [`Report`], who is ready then,
 //!   and the same as a text with a line for each actor;
 //! - [`pair()`], [`same()`] and [`route()`]: whether two steps are dependent, whether two schedules are
-//!   one and the same run, and the exchanges that lead from the one to the other.
+//!   one and the same run, and the exchanges that lead from the one to the other;
+//! - [`prefix()`] and [`remainder()`]: whether two recordings are one run as far as both go, and what is
+//!   left of the longer.
 //!
 //! Each call has a module of its name, whose `fields` gives the answer as C has it.
 //!
@@ -27,8 +30,10 @@ pub mod check;
 mod fields;
 pub mod page;
 pub mod pair;
+pub mod prefix;
 pub mod ready;
 mod refusal;
+pub mod remainder;
 pub mod report;
 pub mod route;
 pub mod run;
@@ -39,8 +44,10 @@ pub use check::check;
 pub use fields::Fields;
 pub use page::{PAGE_ROOM, page};
 pub use pair::{PairVerdict, pair};
+pub use prefix::prefix;
 pub use ready::{Ending, Ready, ready};
 pub use refusal::{Reason, Refusal};
+pub use remainder::{Recording, remainder};
 pub use report::{Actor, Communication, Mailbox, Mutex, Report, Stage};
 pub use route::{route, route_room};
 pub use run::{REPORT_ROOM, run};

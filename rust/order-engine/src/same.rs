@@ -23,7 +23,7 @@ pub enum SameVerdict {
     Same,
 }
 
-/// What [`same`] answers.
+/// What [`same`] and [`prefix`](crate::prefix()) answer.
 #[derive(Clone, Copy, PartialEq, Eq, Hash, Debug)]
 #[non_exhaustive]
 pub struct Same {
@@ -32,6 +32,17 @@ pub struct Same {
 }
 
 impl Same {
+    /// The verdict that a call answered with, or its refusal.
+    pub(crate) fn of(fields: Fields<1>) -> Result<Self, Refusal> {
+        let [verdict] = fields.accepted()?;
+        let verdict = match verdict {
+            0 => SameVerdict::Different,
+            1 => SameVerdict::Same,
+            other => unreachable!("a call answered with the same verdict {other}"),
+        };
+        Ok(Self { verdict })
+    }
+
     /// Whether the two schedules are the same run.
     pub fn is_same(&self) -> bool {
         self.verdict == SameVerdict::Same
@@ -42,13 +53,7 @@ impl Same {
 ///
 /// Refusals: 1 to 9, then 11 to 13 and 21 for the first schedule, then 14 to 16 and 22 for the second.
 pub fn same(table: &[u8], first: &[u8], second: &[u8]) -> Result<Same, Refusal> {
-    let [verdict] = fields(table, first, second).accepted()?;
-    let verdict = match verdict {
-        0 => SameVerdict::Different,
-        1 => SameVerdict::Same,
-        other => unreachable!("order_same answered with verdict {other}"),
-    };
-    Ok(Same { verdict })
+    Same::of(fields(table, first, second))
 }
 
 /// The answer as C has it: 0 different, 1 same.

@@ -60,6 +60,8 @@ fn the_rest() {
         ("ORDER_DEPENDENT", 1),
         ("ORDER_DIFFERENT", 0),
         ("ORDER_SAME", 1),
+        ("ORDER_FIRST", 1),
+        ("ORDER_SECOND", 2),
     ];
     assert_eq!(numbers, BTreeMap::from(wanted));
 }

@@ -7,7 +7,7 @@ use crate::refusal::{Reason, Refusal};
 use crate::site::Site;
 use crate::table::Table;
 
-/// Which of a call's schedules is stepped, and so which refusals it gives.
+/// Which of a call's schedules: the refusals of its entries go by that.
 #[derive(Clone, Copy, PartialEq, Eq, Debug)]
 pub enum Schedule {
     /// The only one, or the first of two.

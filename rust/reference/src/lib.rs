@@ -16,9 +16,11 @@
 //! - [`mod@pair`]: the pair verdict, by its four cases;
 //! - [`trace`], [`mod@same`], [`mod@route`]: an accepted schedule's steps, the same verdict by normal
 //!   forms, and the exchange route;
+//! - [`mod@prefix`], [`mod@remainder`]: the same verdict on what two recordings both have, and what is left
+//!   of the longer;
 //! - [`search`] and [`mod@replay`]: the same verdict by searching all chains, and a route replayed;
-//! - [`quick`] and [`footprint`]: the page, the same verdict and the route made for speed, to be
-//!   measured.
+//! - [`quick`] and [`footprint`]: the page, the same verdict, also of recordings, and the route made for
+//!   speed, to be measured.
 //!
 //! The stepping engine knows a table by [`Table`] alone, which only [`check`] makes. Stepping needs no
 //! heap; a step costs the same however long the schedule and the queues are.
@@ -34,9 +36,10 @@
 //! The route pulls each entry to its place in turn, as the proved one does. Decided by another way:
 //! the reader's forms (masks over an action's bytes), an Add's sum (made and found too large, not
 //! compared beforehand), the page (Rust's own formatting), dependence (the
-//! four cases as the document has them, without a table of codes), and the same verdict (normal forms;
-//! on short schedules also a search through all chains). [`quick`], which is measured and not compared,
-//! works as the proved engine does.
+//! four cases as the document has them, without a table of codes), the same verdict (normal forms; on
+//! short schedules also a search through all chains), and where the longer of two recordings is cut
+//! (entry by entry, without looking at a length). [`quick`], which is measured and not compared, works as
+//! the proved engine does.
 
 #![forbid(unsafe_code)]
 
@@ -51,10 +54,12 @@ pub mod name;
 pub mod next;
 pub mod page;
 pub mod pair;
+pub mod prefix;
 pub mod quick;
 pub mod reader;
 pub mod ready;
 pub mod refusal;
+pub mod remainder;
 pub mod replay;
 pub mod report;
 pub mod route;
@@ -72,9 +77,11 @@ pub use name::Name;
 pub use next::Next;
 pub use page::{PAGE_ROOM, page};
 pub use pair::pair;
+pub use prefix::prefix;
 pub use reader::{check, validate};
 pub use ready::{Ending, Ready, ready};
 pub use refusal::{Reason, Refusal};
+pub use remainder::{Remainder, remainder};
 pub use replay::{replay, replay_stepping};
 pub use report::REPORT_ROOM;
 pub use route::route;

@@ -1,6 +1,6 @@
 //! The page, the same verdict and the route made for speed, for the benchmark alone: digits written one
 //! by one, nothing on the heap, and dependence by footprints. They answer as [`crate::page()`],
-//! [`crate::same()`] and [`crate::route()`] do.
+//! [`crate::same()`], [`crate::prefix()`] and [`crate::route()`] do.
 
 use crate::follow::{Schedule, follow};
 use crate::footprint::Footprint;
@@ -85,6 +85,12 @@ pub fn same(table: &[u8], first: &[u8], second: &[u8]) -> Result<bool, Refusal> 
     let first = Steps::of(&table, Schedule::First, first)?;
     let second = Steps::of(&table, Schedule::Second, second)?;
     Ok(ordered(&first, &second))
+}
+
+/// As [`crate::prefix()`].
+pub fn prefix(table: &[u8], first: &[u8], second: &[u8]) -> Result<bool, Refusal> {
+    let length = first.len().min(second.len());
+    same(table, &first[..length], &second[..length])
 }
 
 /// As [`crate::route()`].

@@ -68,15 +68,15 @@ fn refusals(tallies: &[(&Call, Tally)]) {
     println!("refusals, each with all fields and every lent byte compared");
     print!("{:<8}", "");
     for (call, _) in tallies {
-        print!("{:>9}", call.name);
+        print!("{:>10}", call.name);
     }
     println!();
     for reason in Reason::ALL {
         print!("{:<8}", reason.number());
         for (call, tally) in tallies {
             match call.refuses(reason) {
-                true => print!("{:>9}", tally.refused(reason)),
-                false => print!("{:>9}", "-"),
+                true => print!("{:>10}", tally.refused(reason)),
+                false => print!("{:>10}", "-"),
             }
         }
         println!();

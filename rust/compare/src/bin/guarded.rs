@@ -46,7 +46,7 @@ fn main() -> ExitCode {
                     return ExitCode::FAILURE;
                 }
             };
-            println!("{words}: {:<6} {:>6} accepted", call.name, tally.accepted());
+            println!("{words}: {:<9} {:>6} accepted", call.name, tally.accepted());
             let demands = Demands::of(&tally).accepted(1).only(call.refusals);
             let shortfalls = demands.short();
             if !shortfalls.is_empty() {

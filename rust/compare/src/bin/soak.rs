@@ -46,7 +46,7 @@ fn main() -> ExitCode {
     for Soaked { call, tally, .. } in &soaked {
         let accepted = tally.accepted();
         let all = tally.total();
-        println!("{:<6} {all:>12} inputs, {accepted:>12} accepted", call.name);
+        println!("{:<9} {all:>12} inputs, {accepted:>12} accepted", call.name);
     }
     println!("no difference");
     ExitCode::SUCCESS

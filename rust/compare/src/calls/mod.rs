@@ -1,19 +1,21 @@
 //! The calls, a module for each: how its two engines are compared, and what is measured of it. Those that
-//! step schedules share [`totals`].
+//! step schedules share [`totals`], those that take recordings [`lengths`].
 
+pub mod lengths;
 pub mod totals;
 
 use crate::harness::call::Call;
 use crate::workload::{Load, Measure};
 
 macro_rules! calls {
-    ($($call:ident)*) => {
+    ($($call:ident)*; $($unmeasured:ident)*) => {
         $(pub mod $call;)*
+        $(pub mod $unmeasured;)*
 
         /// The calls.
-        pub static ALL: &[Call] = &[$($call::CALL),*];
+        pub static ALL: &[Call] = &[$($call::CALL,)* $($unmeasured::CALL,)*];
 
-        /// Measures every call on every load.
+        /// Measures every call on every load, but for those that only look at lengths.
         pub fn measure_all(measure: &mut impl Measure, loads: &[Load]) {
             $(
                 for load in loads {
@@ -24,4 +26,4 @@ macro_rules! calls {
     };
 }
 
-calls! { check run ready page pair same route }
+calls! { check run ready page pair same prefix route; remainder }

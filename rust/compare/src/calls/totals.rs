@@ -109,6 +109,11 @@ pub fn demands<'a>(demands: Demands<'a>, reasons: &[Reason], least: u64) -> Dema
 
 /// Notes the totals at the limit that an accepted call met, or one that it was refused for; each once.
 pub fn note(tally: &mut Tally, asked: &Asked) {
+    note_stepped(tally, asked, asked.input.slices());
+}
+
+/// Likewise of a call that steps these schedules, and no more of what it is given.
+pub fn note_stepped(tally: &mut Tally, asked: &Asked, [table, first, second]: [&[u8]; 3]) {
     let refused = match asked.reference.refusal {
         0 => None,
         number => match Reason::of(number) {
@@ -116,7 +121,6 @@ pub fn note(tally: &mut Tally, asked: &Asked) {
             _ => return,
         },
     };
-    let [table, first, second] = &asked.input.read;
     let table = check(table).expect("the table is accepted");
     let mut met = totals(&table, first, refused);
     if refused != Some(Reason::Over) {

@@ -19,7 +19,7 @@ pub struct Difference {
 
 impl fmt::Display for Difference {
     fn fmt(&self, f: &mut fmt::Formatter<'_>) -> fmt::Result {
-        let mut line = |label: &str, words: String| writeln!(f, "{label:<17}{words}");
+        let mut line = |label: &str, words: String| writeln!(f, "{label:<18}{words}");
         let (slots, input) = (&self.call.slots, &self.input);
         line("call:", self.call.name.to_string())?;
         for (read, slice) in slots.read.iter().zip(&input.read) {
@@ -47,7 +47,7 @@ impl fmt::Display for Difference {
             line("engine:", engine.to_string())?;
             line("reference:", reference.to_string())?;
         }
-        write!(f, "{:<17}{}", "mistake:", self.mistake)
+        write!(f, "{:<18}{}", "mistake:", self.mistake)
     }
 }
 

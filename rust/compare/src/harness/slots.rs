@@ -52,7 +52,7 @@ pub struct Slots {
     pub buffer: Buffer,
 }
 
-/// The table, first in every call.
+/// The table, first in every call that takes one.
 pub const TABLE: Read = Read("table", Role::Table);
 /// The only schedule.
 pub const SCHEDULE: Read = Read("schedule", Role::First);
@@ -60,6 +60,10 @@ pub const SCHEDULE: Read = Read("schedule", Role::First);
 pub const FIRST: Read = Read("first schedule", Role::First);
 /// The second of two.
 pub const SECOND: Read = Read("second schedule", Role::Second);
+/// The first of two recordings: schedules that need not end together.
+pub const FIRST_RECORDING: Read = Read("first recording", Role::First);
+/// The second of two.
+pub const SECOND_RECORDING: Read = Read("second recording", Role::Second);
 
 impl Slots {
     /// The index of the slice that is this, if there is one.
@@ -79,6 +83,13 @@ pub struct Input {
     pub bytes: Vec<u8>,
     /// What lent entries hold before the call.
     pub entries: Vec<u16>,
+}
+
+impl Input {
+    /// The slices to read.
+    pub fn slices(&self) -> [&[u8]; READ] {
+        self.read.each_ref().map(Vec::as_slice)
+    }
 }
 
 /// An input in memory, as a call is lent it.

@@ -98,8 +98,8 @@ fn entry(rng: &mut Rng, table: &Table, walk: &Walk, fault: Fault) -> Option<u8> 
     (!open.is_empty()).then(|| rng.pick(&open) as u8)
 }
 
-/// Entries after a refused one, which nothing may depend on; seldom very many.
-fn tail(rng: &mut Rng, table: &Table, rest: &[u8]) -> Vec<u8> {
+/// Entries that nothing may depend on: those that were left, or any; seldom very many.
+pub fn tail(rng: &mut Rng, table: &Table, rest: &[u8]) -> Vec<u8> {
     let length = match rng.below(600) {
         0 => rng.pick(&[65_535, 65_536, 70_000]),
         1..20 => rng.between(200, 600),

@@ -6,7 +6,8 @@
 //! - [`contended`], [`walk`], [`entries`]: tables made for stepping, accepted schedules, and
 //!   schedules with a refused entry;
 //! - [`interleave`]: from one schedule to another with the same steps;
-//! - [`steps`], [`twins`]: tables with one schedule or with two; [`deep`]: those with full queues;
+//! - [`steps`], [`twins`]: tables with one schedule or with two; [`recordings`]: those with two that need
+//!   not end together; [`deep`]: those with full queues;
 //!   [`digits`]: those whose cells hold numbers of every length; [`totals`]: those whose sums come to
 //!   the most that a cell holds;
 //! - [`buffers`]: lent buffers.
@@ -20,6 +21,7 @@ pub mod entries;
 pub mod families;
 pub mod interleave;
 pub mod mix;
+pub mod recordings;
 pub mod rng;
 pub mod sample;
 pub mod steps;

@@ -60,7 +60,7 @@ impl Twins {
     }
 
     /// The schedules in either order.
-    fn either_way(mut self, rng: &mut Rng) -> Self {
+    pub fn either_way(mut self, rng: &mut Rng) -> Self {
         if rng.once_in(2) {
             std::mem::swap(&mut self.first, &mut self.second);
         }
@@ -90,7 +90,7 @@ impl Twins {
     }
 
     /// A table that is mostly refused.
-    fn damaged(rng: &mut Rng) -> Self {
+    pub fn damaged(rng: &mut Rng) -> Self {
         let family = rng.pick(&FAMILIES);
         Self {
             table: family(rng),

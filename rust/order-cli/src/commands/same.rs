@@ -5,8 +5,14 @@ use crate::command::{Command, Example};
 use crate::difference::{Pairs, difference};
 use crate::given::Given;
 use crate::operand::{Choice, FIRST, SECOND, TABLE, plain, quiet};
+use crate::recordings::Recordings;
 use crate::refusals::{Asked, accepted, refused};
-use order_engine::{SameVerdict, same};
+use order_engine::{SameVerdict, prefix, same};
+
+const PREFIX: Choice = plain(
+    "--prefix",
+    "of recordings: hold the longer to the length of the shorter",
+);
 
 const ALL: Choice = plain(
     "--all",
@@ -24,9 +30,13 @@ pub static COMMAND: Command = Command {
 Says whether two schedules are the same run: whether exchanges of independent neighbours turn the
 first into the second, so that both end in the same state. Of different ones it names the steps that
 only one of them runs, and the first dependent pair of steps that they run in opposite orders: the one
-whose later step comes first in FIRST, and of several such the one whose earlier step does.",
+whose later step comes first in FIRST, and of several such the one whose earlier step does.
+
+With --prefix the two are recordings that need not end together. The longer is held to the length of
+the shorter, and the answer is about those parts; it also says how many entries are left over. These
+are not stepped, so that none of them is refused.",
     operands: &[TABLE, FIRST, SECOND],
-    options: &[ALL, QUIET],
+    options: &[PREFIX, ALL, QUIET],
     example: Example {
         line: "order same loyalty-first/site.tab loyalty-first/order.sch fleet-first/order.sch",
         output: "\
@@ -44,20 +54,29 @@ fn run(given: &Given) -> Result<Answer, Failure> {
     let table = given.file(&TABLE)?;
     let (first, second) = (given.schedule(&FIRST)?, given.schedule(&SECOND)?);
     let table = accepted(&table)?;
-    let answer = same(&table.bytes, &first, &second)
+    let by_parts = given.has(&PREFIX);
+    let verdict = if by_parts { prefix } else { same };
+    let answer = verdict(&table.bytes, &first, &second)
         .map_err(|refusal| refused(refusal, &Asked::of_two(&table.bytes, &first, &second)))?;
     if given.has(&QUIET) {
         return Ok(Answer::quiet(answer.is_same()));
     }
+    let (first, second, left) = match by_parts {
+        true => {
+            let parts = Recordings::of(&first, &second);
+            (parts.first, parts.second, parts.left_over())
+        }
+        false => (&first[..], &second[..], String::new()),
+    };
     Ok(Answer::of(match answer.verdict {
-        SameVerdict::Same => "same\n".to_owned(),
+        SameVerdict::Same => format!("same\n{left}"),
         SameVerdict::Different => {
             let pairs = match given.has(&ALL) {
                 true => Pairs::All,
                 false => Pairs::First,
             };
-            let words = difference(&table, &first, &second, pairs);
-            format!("different\n{words}")
+            let words = difference(&table, first, second, pairs);
+            format!("different\n{left}{words}")
         }
     }))
 }

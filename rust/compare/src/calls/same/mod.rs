@@ -35,7 +35,7 @@ pub const CALL: Call = Call {
         let answer = reference::same(table, first, second);
         answer.map(|same| [u32::from(same)]).into()
     },
-    mistake,
+    mistake: |asked| mistake(asked, asked.input.slices()),
     note,
     demands: |demands, tally| {
         let quarter = tally.accepted() / 4;
@@ -66,15 +66,15 @@ const SEARCHED_SAME: &str = "same, all chains searched";
 const SEARCHED_DIFFERENT: &str = "different, all chains searched";
 const LONG: &str = "of 256 entries";
 
-/// Unequal answers; a search through all chains that finds otherwise; two ends of one run.
-fn mistake(asked: &Asked) -> Option<String> {
+/// Unequal answers to whether these two schedules are the same; a search through all chains that finds
+/// otherwise; two ends of one run.
+pub fn mistake(asked: &Asked, [table, first, second]: [&[u8]; 3]) -> Option<String> {
     let unequal = asked.unequal();
     if unequal.is_some() || !asked.accepted() {
         return unequal;
     }
-    let [table, first, second] = &asked.input.read;
     let same = asked.reference.values[0] == 1;
-    if searched(asked) {
+    if searched(first) {
         let table = check(table).expect("the table is accepted");
         let found = chain_exists(&table, first, second);
         if found != same {
@@ -102,9 +102,9 @@ fn two_ends(table: &[u8], first: &[u8], second: &[u8]) -> Option<String> {
     (theirs(first) != theirs(second)).then(|| "the reference's two ends differ".to_string())
 }
 
-/// Whether all chains are searched.
-fn searched(asked: &Asked) -> bool {
-    asked.accepted() && asked.input.read[1].len() <= SEARCHED
+/// Whether all chains from an accepted schedule are searched.
+fn searched(first: &[u8]) -> bool {
+    first.len() <= SEARCHED
 }
 
 fn note(tally: &mut Tally, asked: &Asked) {
@@ -115,7 +115,7 @@ fn note(tally: &mut Tally, asked: &Asked) {
     let [table, first, second] = &asked.input.read;
     let same = asked.reference.values[0] == 1;
     tally.note(if same { SAME } else { DIFFERENT });
-    if searched(asked) {
+    if searched(first) {
         tally.note(if same {
             SEARCHED_SAME
         } else {

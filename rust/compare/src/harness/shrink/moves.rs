@@ -16,6 +16,8 @@ pub enum Move {
     Actor(usize, usize),
     /// Bytes of a slice.
     Part(usize, usize, usize),
+    /// The same entries of all schedules.
+    Entries(usize, usize),
     /// The nth entry of an actor, in all schedules.
     Entry(u8, usize),
     /// An action, with its entries.
@@ -47,6 +49,8 @@ pub fn all(input: &Input, slots: &Slots) -> Vec<Move> {
             }
         }
     }
+    let common = ranges(common(input, slots)).into_iter();
+    moves.extend(common.map(|(at, count)| Move::Entries(at, count)));
     for (slot, slice) in input.read.iter().enumerate() {
         for (at, &byte) in slice.iter().enumerate() {
             let smaller = [0, byte / 2, byte.saturating_sub(1)];
@@ -114,6 +118,12 @@ impl Move {
                 next.read[slot].get(at..at + count)?;
                 next.read[slot].drain(at..at + count);
             }
+            Self::Entries(at, count) => {
+                for schedule in schedules(&mut next, slots) {
+                    schedule.get(at..at + count)?;
+                    schedule.drain(at..at + count);
+                }
+            }
             Self::Entry(actor, nth) => {
                 for schedule in schedules(&mut next, slots) {
                     drop_entry(schedule, actor, nth);
@@ -169,10 +179,25 @@ fn laid_out(
 /// The schedules of an input.
 fn schedules<'a>(input: &'a mut Input, slots: &Slots) -> impl Iterator<Item = &'a mut Vec<u8>> {
     let slices = input.read.iter_mut().zip(slots.read);
-    slices.filter_map(|(slice, read)| match read.1 {
-        Role::First | Role::Second => Some(slice),
-        Role::Table => None,
-    })
+    slices.filter_map(|(slice, read)| is_schedule(read.1).then_some(slice))
+}
+
+/// How many entries all schedules of an input have, where there are two.
+fn common(input: &Input, slots: &Slots) -> usize {
+    let slices = input.read.iter().zip(slots.read);
+    let schedules = slices.filter(|(_, read)| is_schedule(read.1));
+    let lengths: Vec<usize> = schedules.map(|(schedule, _)| schedule.len()).collect();
+    match lengths[..] {
+        [first, second] => first.min(second),
+        _ => 0,
+    }
+}
+
+fn is_schedule(role: Role) -> bool {
+    match role {
+        Role::First | Role::Second => true,
+        Role::Table => false,
+    }
 }
 
 /// Takes an actor's entries out, and gives those after it the numbers that they have then.
