@@ -17,7 +17,7 @@ returns : tie.Need-returns
 returns c = let l = c .before .before .if1 .taken in c .same .ensures ∙ sym (first-whole _ _ _ (omega (arith, l)))
 
 slice-aggregate-same-2 : tie.Need-slice-aggregate-same-2
-slice-aggregate-same-2 c = sym (length-take-le _ _ (c .before .if1 .left))
+slice-aggregate-same-2 c = let l = c .before .if1 .left in sym (length-take-le _ _ (omega (arith, l)))
 
 same-requires-2 : tie.Need-same-requires-2
 same-requires-2 c κs = search needs
