@@ -6,7 +6,7 @@ function fault(said) { print "trust: " said > "/dev/stderr"; faults++ }
 
 # ---- imports
 
-function is_library(path) { return path ~ /^(Prim|mathlib|lib|borrow|native)\./ }
+function is_library(path) { return path ~ /^(Prim|mathlib|lib|borrow|native|denote\.Ref)\./ }
 
 function crate_of(file) { sub(/^crates\//, "", file); sub(/\/.*/, "", file); return file }
 
