@@ -10,6 +10,7 @@
 -- `PageShape`: every line of a page has 101 characters, and no page passes 816 bytes;
 -- `SamePages`: exchanged schedules have the same page;
 -- `Over`: a step whose total would run over never becomes ready, and exchanged schedules meet it at the same entry;
+-- `RecordingLaws`: two recordings compared as far as both reach; the longer goes on from the shorter one's end;
 -- `Routes`: the route call's promise can be kept;
 -- `Beginnings`: a listing goes by the beginnings of its files alone.
 pub mod Upd

@@ -1,9 +1,9 @@
 -- Two recordings: what the verdict on them looks at and says, either way round; and that the longer goes on from the shorter one's end.
 -- Assumes nothing.
-use Prim.Native.Nat.{ℕ, _+_, _-_, _≤_, _<_}
+use Prim.Native.Nat.{ℕ, _-_, _≤_, _<_}
 use native.Mathlib.Nat.{zero-add}
 use native.Mathlib.Omega.{arith}
-use mathlib.Core.Path.{_≡_, refl, sym, _∙_, ap, ap₂, subst}
+use mathlib.Core.Path.{_≡_, refl, sym, _∙_, ap, subst}
 use mathlib.Core.Logic.{_⊎_, inl, inr, _↔_}
 use mathlib.Core.Bool.{Bool, true, false, cond}
 use mathlib.Core.List.{List, _++_}
@@ -22,9 +22,9 @@ use Rattle.trace.proofs.Run.{final-append, accepted-append, accepted-after}
 use Rattle.model.specs.Site.{Site, initial}
 use Rattle.model.specs.Schedule.{machine, endState, firstNumbers, secondNumbers, checkFrom, checkSchedule}
 use Rattle.model.specs.Calls.{gives, SameVerdict, same, different, sameChecks, sameOf}
-use Rattle.model.specs.Demand3.{Accepted, EndsAlike}
+use Rattle.model.specs.Demand3.{Accepted}
 use Rattle.model.specs.Over.{GoOnAlike}
-use Rattle.model.specs.Recordings.{held, prefixOf, theFirst, theSecond, choose, Part, remainderOf}
+use Rattle.model.specs.Recordings.{held, prefixOf, theFirst, theSecond, choose, Part, remainderOf, Slice, remainderIn}
 use Rattle.model.specs.RecordingLaws.{left, longer, shorter, remainder, Split, Continues, EveryRecording}
 use Rattle.model.proofs.Checks.{given-accepted, checks-after, checks-taken}
 use Rattle.model.proofs.Demand3.{site-theorems, same-given, demand-3}
@@ -66,6 +66,15 @@ split-of p q =
     Split (choose (x .recording) q p) (choose (x .recording) p q) (take (x .length) (drop (x .from) (choose (x .recording) p q))) (x .from) (x .length))
     (λ h. split-at p q (omega arith))
     (λ h. split-at q p h)
+
+handed : (a b : Slice) → remainderIn a b .bytes ≡ remainder (a .bytes) (b .bytes)
+unfolding remainderIn
+handed a b =
+    by-lengths (length (a .bytes)) (length (b .bytes))
+    (λ (x : Part).
+    take (x .length) (drop (x .from) (choose (x .recording) a b .bytes)) ≡ take (x .length) (drop (x .from) (choose (x .recording) (a .bytes) (b .bytes))))
+    (λ h. refl)
+    (λ h. refl)
 
 module _ (table : List ℕ) where
   -- ---- what the verdict looks at
@@ -178,6 +187,7 @@ pub every-recording : EveryRecording
 unfolding prefixOf
 every-recording table read =
     record {
+      handed = handed;
       split = split-of;
       equal-lengths = equal-lengths table;
       unseen = λ p q more e. (unseen-first table p q more e, unseen-second table p q more e);

@@ -1,6 +1,6 @@
 -- Document 01 as definitions, in its order: the state, an action's views, stepping, the ready answer, the pair verdict, the state report, and
 -- the outcome of each call for every input. Then what is proved of them: the four cases of the pair verdict, demand 3, what holds of every
--- reached state, that a report determines its state, the page's shape, and totals that run over.
+-- reached state, that a report determines its state, the page's shape, totals that run over, and two recordings of one run.
 pub mod Site
 pub mod Views
 pub mod Mutex

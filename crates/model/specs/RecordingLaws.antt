@@ -15,7 +15,7 @@ use Rattle.model.specs.Schedule.{machine, endState, RefusalNumbers, chec
 use Rattle.model.specs.Calls.{gives, runOf, readyOf, SameVerdict, same, different, sameOf}
 use Rattle.model.specs.Page.{pageOf}
 use Rattle.model.specs.Demand3.{Accepted}
-use Rattle.model.specs.Recordings.{held, prefixOf, choose, Part, remainderOf}
+use Rattle.model.specs.Recordings.{held, prefixOf, choose, Part, remainderOf, Slice, remainderIn}
 
 -- ---- the longer and the shorter of two recordings; with equal lengths the first counts as the longer
 
@@ -29,7 +29,6 @@ module _ (p q : List ℕ) where
   abbrev pub shorter : List ℕ
   shorter = choose (left .recording) q p
 
-  -- the entries that the remainder call hands back
   abbrev pub remainder : List ℕ
   remainder = take (left .length) (drop (left .from) longer)
 
@@ -53,7 +52,8 @@ pub record Continues (table shorter longer remainder : List ℕ) : Type 0 where
   pub pages : (buffer : List ℕ) → pageOf table longer buffer ≡ pageOf table (shorter ++ remainder) buffer
 
 pub record Recordings (table : List ℕ) : Type 0 where
-  -- of any two recordings
+  -- of any two recordings: the remainder is what the call hands back, wherever they stand, and completes what is held
+  pub handed : (a b : Slice) → remainderIn a b .bytes ≡ remainder (a .bytes) (b .bytes)
   pub split : (p q : List ℕ) → Split (shorter p q) (longer p q) (remainder p q) (left p q .from) (left p q .length)
   -- with equal lengths the verdict is that of the call same
   pub equal-lengths : (p q : List ℕ) → length p ≡ length q → prefixOf table p q ≡ sameOf table p q

@@ -53,11 +53,11 @@ abbrev pub sliceOf : RefT (List ℕ) → Slice
 sliceOf r = record { block = ptr r .0; offset = ptr r .1; bytes = now r }
 
 -- so many bytes of a slice, from one on, where they stand
-abbrev pub within : Slice → (from length : ℕ) → Slice
-within s from n = record { block = s .block; offset = s .offset + from; bytes = take n (drop from (s .bytes)) }
+abbrev pub piece : Slice → (from length : ℕ) → Slice
+piece s from n = record { block = s .block; offset = s .offset + from; bytes = take n (drop from (s .bytes)) }
 
 abbrev pub partIn : Part → (first second : Slice) → Slice
-partIn p a b = within (choose (p .recording) a b) (p .from) (p .length)
+partIn p a b = piece (choose (p .recording) a b) (p .from) (p .length)
 
 -- what the remainder call hands back
 unfoldable pub remainderIn : (first second : Slice) → Slice
