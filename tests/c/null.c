@@ -76,34 +76,21 @@ static void expect_verdict(OrderSame answer, uint32_t verdict)
     expect_number(answer.verdict, verdict, "a verdict without a schedule", "the verdict");
 }
 
-static void sames(void)
+/* order_same or order_prefix, with its verdict on a schedule against none. */
+static void judged(OrderSame call(const uint8_t *, size_t, const uint8_t *, size_t, const uint8_t *, size_t),
+                   const char *name, uint32_t against_none)
 {
     Lent lent = both();
-    OrderSame answer = order_same(NULL, 0, lent.first, lent.first_length, lent.second, lent.second_length);
+    OrderSame answer = call(NULL, 0, lent.first, lent.first_length, lent.second, lent.second_length);
     expect_same_refused(answer, ORDER_REFUSED_SHORT_TABLE, 0);
-    expect_same_refused(order_same(NULL, 0, NULL, 0, NULL, 0), ORDER_REFUSED_SHORT_TABLE, 0);
+    expect_same_refused(call(NULL, 0, NULL, 0, NULL, 0), ORDER_REFUSED_SHORT_TABLE, 0);
 
-    answer = order_same(lent.table, lent.table_length, NULL, 0, lent.second, lent.second_length);
-    expect_verdict(answer, ORDER_DIFFERENT);
-    answer = order_same(lent.table, lent.table_length, lent.first, lent.first_length, NULL, 0);
-    expect_verdict(answer, ORDER_DIFFERENT);
-    expect_verdict(order_same(lent.table, lent.table_length, NULL, 0, NULL, 0), ORDER_SAME);
-    expect_kept(&lent, 0, 0, "order_same");
-}
-
-static void prefixes(void)
-{
-    Lent lent = both();
-    OrderSame answer = order_prefix(NULL, 0, lent.first, lent.first_length, lent.second, lent.second_length);
-    expect_same_refused(answer, ORDER_REFUSED_SHORT_TABLE, 0);
-    expect_same_refused(order_prefix(NULL, 0, NULL, 0, NULL, 0), ORDER_REFUSED_SHORT_TABLE, 0);
-
-    answer = order_prefix(lent.table, lent.table_length, NULL, 0, lent.second, lent.second_length);
-    expect_verdict(answer, ORDER_SAME);
-    answer = order_prefix(lent.table, lent.table_length, lent.first, lent.first_length, NULL, 0);
-    expect_verdict(answer, ORDER_SAME);
-    expect_verdict(order_prefix(lent.table, lent.table_length, NULL, 0, NULL, 0), ORDER_SAME);
-    expect_kept(&lent, 0, 0, "order_prefix");
+    answer = call(lent.table, lent.table_length, NULL, 0, lent.second, lent.second_length);
+    expect_verdict(answer, against_none);
+    answer = call(lent.table, lent.table_length, lent.first, lent.first_length, NULL, 0);
+    expect_verdict(answer, against_none);
+    expect_verdict(call(lent.table, lent.table_length, NULL, 0, NULL, 0), ORDER_SAME);
+    expect_kept(&lent, 0, 0, name);
 }
 
 static void expect_no_exchange(OrderRoute answer)
@@ -143,7 +130,7 @@ void empty_slices(void)
     runs();
     readies();
     pages();
-    sames();
-    prefixes();
+    judged(order_same, "order_same", ORDER_DIFFERENT);
+    judged(order_prefix, "order_prefix", ORDER_SAME);
     routes();
 }
