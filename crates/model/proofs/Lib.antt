@@ -50,6 +50,7 @@ pub mod Columns
 pub mod PageShape
 pub mod SamePages
 pub mod Over
+pub mod SameVerdicts
 pub mod RecordingLaws
 pub mod TableBeginning
 pub mod Beginnings

@@ -1,10 +1,10 @@
--- Two recordings: what the verdict on them looks at and says, either way round; and that the longer goes on from the shorter one's end.
+-- Two recordings: what the verdict on them looks at and says, by what the same verdict says; and that the longer goes on from the shorter one's end.
 -- Assumes nothing.
 use Prim.Native.Nat.{ℕ, _-_, _≤_, _<_}
 use native.Mathlib.Nat.{zero-add}
 use native.Mathlib.Omega.{arith}
 use mathlib.Core.Path.{_≡_, refl, sym, _∙_, ap, subst}
-use mathlib.Core.Logic.{_⊎_, inl, inr, _↔_}
+use mathlib.Core.Logic.{_⊎_, inl, inr}
 use mathlib.Core.Bool.{Bool, true, false, cond}
 use mathlib.Core.List.{List, _++_}
 use borrow.Author.Tests.{ltb-true, ltb-false}
@@ -13,21 +13,20 @@ use lib.ListN.{length, take, drop, length-append, length-drop, take-append-drop}
 use lib.Seq.{take-all, take-at}
 use Rattle.table.specs.Outcome.{accepted}
 use Rattle.table.specs.Read.{readOf}
-use Rattle.table.proofs.Checks.{then-left, then-right}
 use Rattle.trace.specs.Schedule.{accepted as all-taken, final}
-use Rattle.trace.specs.Chain.{Chained}
 use Rattle.trace.specs.Same.{equivalent}
 use Rattle.trace.proofs.Bools.{which}
 use Rattle.trace.proofs.Run.{final-append, accepted-append, accepted-after}
 use Rattle.model.specs.Site.{Site, initial}
-use Rattle.model.specs.Schedule.{machine, endState, firstNumbers, secondNumbers, checkFrom, checkSchedule}
-use Rattle.model.specs.Calls.{gives, SameVerdict, same, different, sameChecks, sameOf}
+use Rattle.model.specs.Schedule.{machine, endState, checkFrom}
+use Rattle.model.specs.Calls.{gives, SameVerdict, same, different, sameOf}
 use Rattle.model.specs.Demand3.{Accepted}
 use Rattle.model.specs.Over.{GoOnAlike}
 use Rattle.model.specs.Recordings.{held, prefixOf, theFirst, theSecond, choose, Part, remainderOf, Slice, remainderIn}
 use Rattle.model.specs.RecordingLaws.{left, longer, shorter, remainder, Split, Continues, EveryRecording}
-use Rattle.model.proofs.Checks.{given-accepted, checks-after, checks-taken}
-use Rattle.model.proofs.Demand3.{site-theorems, same-given, demand-3}
+use Rattle.model.proofs.Checks.{checks-after}
+use Rattle.model.proofs.Demand3.{same-given, demand-3}
+use Rattle.model.proofs.SameVerdicts.{called-same, called-different, same-either-way}
 use Rattle.model.proofs.Over.{every-over}
 
 -- ---- by the two lengths
@@ -103,44 +102,12 @@ module _ (table : List ℕ) where
   held-accepted p q h =
       accepted-append (machine table) initial (take (length q) p) (drop (length q) p) (rw (take-append-drop (length q) p) h) .0
 
-  -- ---- what it says
-
-  both-accepted : (p q : List ℕ) (v : SameVerdict) → sameOf table p q ≡ gives v → Accepted table p × Accepted table q
-  unfolding sameOf
-  both-accepted p q v h =
-      let checks = then-right (readOf table) _ (given-accepted (sameChecks table p q) (cond (equivalent (machine table) initial p q) same different) v h) in (
-        checks-taken table firstNumbers initial 0 p (then-left (checkSchedule firstNumbers table p) _ checks),
-        checks-taken table secondNumbers initial 0 q (then-right (checkSchedule firstNumbers table p) _ checks),
-      )
-
   module _ (read : readOf table ≡ accepted) where
-    called-same : (p q : List ℕ)
-        → (sameOf table p q ≡ gives same) ↔ (Accepted table p × Accepted table q × Chained (machine table) initial p q)
-    called-same p q = (
-      λ h. let a = both-accepted p q same h in (a .0, a .1, demand-3 table read .called-same p q (a .0) (a .1) .0 h),
-      λ c. demand-3 table read .called-same p q (c .0) (c .1) .1 (c .2),
-    )
-
-    called-different : (p q : List ℕ)
-        → (sameOf table p q ≡ gives different) ↔ (Accepted table p × Accepted table q × (¬ Chained (machine table) initial p q))
-    called-different p q = (
-      λ h. let a = both-accepted p q different h in (a .0, a .1, demand-3 table read .called-different p q (a .0) (a .1) .0 h),
-      λ c. demand-3 table read .called-different p q (c .0) (c .1) .1 (c .2),
-    )
-
-    same-either-way : (p q : List ℕ) (v : SameVerdict) → sameOf table p q ≡ gives v → sameOf table q p ≡ gives v
-    same-either-way p q v h =
-        let a = both-accepted p q v h in
-        same-given table read q p (a .1) (a .0)
-        ∙ ap (λ (b : Bool). gives (cond b same different)) (site-theorems table .same-symmetric p q)
-        ∙ sym (same-given table read p q (a .0) (a .1))
-        ∙ h
-
     -- ---- the longer goes on
 
     goes-on : (part short rest : List ℕ) → sameOf table part short ≡ gives same → Continues table short (part ++ rest) rest
     goes-on part short rest h =
-        let c = called-same part short .0 h in
+        let c = called-same table read part short .0 h in
         let end : endState table short ≡ endState table part = demand-3 table read .chains (c .2 .0) part short (c .0) (c .2 .1) .1 .ends in
         let alike : GoOnAlike table part short rest = every-over table read .exchanged (c .2 .0) part short rest (c .0) (c .2 .1) .1 in
         record {
@@ -166,7 +133,7 @@ module _ (table : List ℕ) where
 
     either-way : (p q : List ℕ) (v : SameVerdict) → prefixOf table p q ≡ gives v → prefixOf table q p ≡ gives v
     unfolding prefixOf
-    either-way p q v h = same-either-way (held p q) (held q p) v h
+    either-way p q v h = same-either-way table read (held p q) (held q p) v h
 
     continues : (p q : List ℕ) → prefixOf table p q ≡ gives same → Continues table (shorter p q) (longer p q) (remainder p q)
     continues p q h =

@@ -1,2 +1,2 @@
--- What the two functions share.
+-- What `remainder` goes by of a part.
 pub mod Parts
