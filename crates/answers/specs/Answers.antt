@@ -46,6 +46,7 @@ refusalOf refusal.NoStep = refused 17 0
 refusalOf refusal.RouteRoom = refused 18 0
 refusalOf refusal.Different = refused 19 0
 refusalOf refusal.PageRoom = refused 20 0
+refusalOf refusal.ScheduleRoom = refused 23 0
 
 abbrev pub refusedBy : {A : Type 0} → Refusal → Result A
 refusedBy r = refuses (numberOf (refusalOf r)) (positionOf (refusalOf r))

@@ -63,6 +63,7 @@ pub enum Refusal {
     RouteRoom,
     Different,
     PageRoom,
+    ScheduleRoom,
 }
 
 impl Refusal {
@@ -79,6 +80,7 @@ impl Refusal {
             Refusal::RouteRoom => 18,
             Refusal::Different => 19,
             Refusal::PageRoom => 20,
+            Refusal::ScheduleRoom => 23,
         }
     }
 
@@ -95,11 +97,12 @@ impl Refusal {
             Refusal::RouteRoom => 0,
             Refusal::Different => 0,
             Refusal::PageRoom => 0,
+            Refusal::ScheduleRoom => 0,
         }
     }
 }
 
-// The answer of a call that writes into a lent buffer, run, page or route: the length of what was written.
+// The answer of a call that writes into a lent buffer, run, page, draw or route: the length of what was written.
 pub enum LengthAnswer {
     Length(u32),
     Refused(Refusal),

@@ -1,4 +1,3 @@
--- An execution by its course, what its end is good for, and a call that writes a text of it.
+-- An execution by its course, and what its end is good for.
 pub mod Courses
 pub mod Ends
-pub mod Fills

@@ -1,4 +1,6 @@
 // An execution: the table read, and a schedule stepped from a fresh site. It ends in a state, held in arrays, or in a refusal.
+ghost use mathlib.Core.Path.{_≡_};
+ghost use lib.ListN.{length};
 ghost use Rattle.play.specs.Parts.{Zeros};
 ghost use Rattle.execution.specs.Parts.{Executed};
 use answers::Refusal;
@@ -28,7 +30,7 @@ pub fn execute(
     queues: &mut [u8; 72],
     names: &mut [u8; 256],
 ) -> Execution
-    requires { ⌜ Zeros (now comms) (now log) (now ends) (now queues) (now names) ⌝ }
+    requires { ⌜ Zeros (now comms) (now log) (now ends) (now queues) × (length (now names) ≡ 256) ⌝ }
     ensures { λ r. ⌜ Executed (now (table .entry)) (now (schedule .entry)) (now (comms .exit)) (now (log .exit)) (now (ends .exit))
         (now (queues .exit)) (now (names .exit)) r ⌝ }
 {

@@ -52,6 +52,10 @@ pub mod SamePages
 pub mod Over
 pub mod SameVerdicts
 pub mod RecordingLaws
+pub mod Fills
+pub mod Ranked
+pub mod Scheduled
+pub mod Drawn
 pub mod TableBeginning
 pub mod Beginnings
 pub mod Cases
@@ -61,5 +65,6 @@ pub mod Corners
 pub mod PageExamples
 pub mod OverExamples
 pub mod RecordingExamples
+pub mod DrawExamples
 pub mod Listings
 pub mod Forecourt

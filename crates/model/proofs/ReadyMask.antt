@@ -32,10 +32,10 @@ bit-small true = lit< tt
 bit-small false = lit< tt
 
 module _ (b : Bool) (m : ℕ) where
-  rest-half : (bit b + 2 * m) / 2 ≡ m
+  pub rest-half : (bit b + 2 * m) / 2 ≡ m
   rest-half = add-mul-div-left (bit b) m (lit< tt) ∙ ap (λ (x : ℕ). x + m) (bit-half b) ∙ omega arith
 
-  lowest : (bit b + 2 * m) % 2 ≡ bit b
+  pub lowest : (bit b + 2 * m) % 2 ≡ bit b
   lowest = add-mul-mod-self-left (bit b) 2 m ∙ bit-rest b
 
   higher : (i : ℕ) → bitOf (bit b + 2 * m) (suc i) ≡ bitOf m i
@@ -63,7 +63,7 @@ module _ (f : ℕ → Bool) where
   mask-small zero k = lit< tt
   mask-small (suc n) k = rw (pow-succ' 2 n) (omega (arith, mask-small n (suc k), bit-small (f k)))
 
-  mask-ones : (n k : ℕ) → ones (maskOf f n k) ≡ howMany f n k
+  pub mask-ones : (n k : ℕ) → ones (maskOf f n k) ≡ howMany f n k
   unfolding ones
   mask-ones zero k = refl
   mask-ones (suc n) k =

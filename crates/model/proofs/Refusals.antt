@@ -9,6 +9,8 @@ use Rattle.model.specs.Report.{report}
 use Rattle.model.specs.Schedule.{endState}
 use Rattle.model.specs.Calls.{gives, refuses, fills, runChecks, runOf}
 use Rattle.model.specs.Page.{page, pageChecks, pageOf}
+use Rattle.model.specs.Scheduler.{makerChecks}
+use Rattle.model.specs.Draw.{drawnFrom, drawOf}
 use Rattle.model.specs.Refusals.{RefusalsKeep}
 
 given-not : {n : ℕ} {number position : ℕ} {A : Type 0} → gives n ≡ refuses number position → A
@@ -20,9 +22,10 @@ keeps accepted written buffer number position e = given-not e
 keeps (refused m p) written buffer number position e = refl
 
 pub refusals-keep : (table schedule : List ℕ) → RefusalsKeep table schedule
-unfolding runOf pageOf
+unfolding runOf pageOf drawOf
 refusals-keep table schedule =
     record {
       run = λ buffer. keeps (runChecks table schedule buffer) (report table (endState table schedule)) buffer;
       page = λ buffer. keeps (pageChecks table schedule buffer) (page table (endState table schedule)) buffer;
+      draw = λ seed buffer. keeps (makerChecks table buffer) (drawnFrom table seed) buffer;
     }

@@ -53,7 +53,7 @@ module _ (table : List ℕ) where
   abbrev pub taken : Site → ℕ
   taken s = total (λ a. s .actor a .position) (actorsOf table) 0
 
-  step-taken : (s : Site) (a : ℕ) → ready table s a ≡ true → taken (step table s a) ≡ suc (taken s)
+  pub step-taken : (s : Site) (a : ℕ) → ready table s a ≡ true → taken (step table s a) ≡ suc (taken s)
   step-taken s a r =
       total-raised (λ b. s .actor b .position) (λ b. step table s a .actor b .position) a (actorsOf table) 0 (omega arith)
       (omega (arith, ltb-true a (actorsOf table) (ready-parts table s a r .0))) (own-position table s a)

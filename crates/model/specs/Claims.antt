@@ -18,6 +18,8 @@ use Rattle.model.specs.Report.{report}
 use Rattle.model.specs.Schedule.{machine, endState}
 use Rattle.model.specs.Calls.{Result, gives, refuses, Filled, reportRoom, runOf, readyOf, PairVerdict, pairOf, SameVerdict, sameOf}
 use Rattle.model.specs.Recordings.{prefixOf, Part, remainderOf, Slice, remainderIn}
+use Rattle.model.specs.Scheduler.{scheduleRoom}
+use Rattle.model.specs.Draw.{draw, drawOf}
 use Rattle.model.specs.Route.{routeChecks}
 use Rattle.model.specs.Text.{ascii, line}
 use Rattle.model.specs.Page.{pageRoom, pageOf}
@@ -77,6 +79,12 @@ pub data Question : Type 0 where
   prefix : (table first second : List ℕ) → Question
   remains : (firstLength secondLength : ℕ) → Question
   remainder : (first second : Slice) → Question
+  -- what a draw makes of x; the result of the draw call with a buffer of so many zeros; the entries that it leaves in 256 zeros; all that it leaves
+  -- in a buffer
+  nextX : (x : ℕ) → Question
+  drawIn : (room : ℕ) (table : List ℕ) (seed : ℕ) → Question
+  drawn : (table : List ℕ) (seed : ℕ) → Question
+  drawnOver : (buffer table : List ℕ) (seed : ℕ) → Question
   -- whether the positions are a route from the first schedule to the second; what the route call's checks give with a buffer of so many entries;
   -- how the two end
   isRoute : (table positions first second : List ℕ) → Question
@@ -114,6 +122,10 @@ ask (areSame table first second) = judged (sameOf table first second)
 ask (prefix table first second) = judged (prefixOf table first second)
 ask (remains firstLength secondLength) = left (remainderOf firstLength secondLength)
 ask (remainder first second) = handed (remainderIn first second)
+ask (nextX x) = holds (draw x)
+ask (drawIn room table seed) = ran (drawOf table seed (replicate room 0) .result)
+ask (drawn table seed) = written (writtenBy (drawOf table seed (replicate scheduleRoom 0)))
+ask (drawnOver buffer table seed) = written (drawOf table seed buffer .lent)
 ask (isRoute table positions first second) = routed (isChain (machine table) initial positions first second)
 ask (routeIn room table first second) = outcome (routeChecks table first second (replicate room 0))
 ask (ends table first second) = ended (compareEnds table first second)

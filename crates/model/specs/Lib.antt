@@ -1,6 +1,7 @@
 -- Document 01 as definitions, in its order: the state, an action's views, stepping, the ready answer, the pair verdict, the state report, and
 -- the outcome of each call for every input. Then what is proved of them: the four cases of the pair verdict, demand 3, what holds of every
--- reached state, that a report determines its state, the page's shape, totals that run over, and two recordings of one run.
+-- reached state, that a report determines its state, the page's shape, totals that run over, two recordings of one run, and the load that a seed
+-- determines.
 pub mod Site
 pub mod Views
 pub mod Mutex
@@ -13,6 +14,8 @@ pub mod Report
 pub mod Schedule
 pub mod Calls
 pub mod Recordings
+pub mod Scheduler
+pub mod Draw
 pub mod Route
 pub mod Text
 pub mod Page
@@ -27,6 +30,7 @@ pub mod Determined
 pub mod PageShape
 pub mod Over
 pub mod RecordingLaws
+pub mod Drawn
 pub mod Claims
 pub mod Cases
 pub mod Examples
@@ -35,5 +39,6 @@ pub mod Corners
 pub mod PageExamples
 pub mod OverExamples
 pub mod RecordingExamples
+pub mod DrawExamples
 pub mod Listings
 pub mod Forecourt

@@ -6,6 +6,7 @@ use mathlib.Core.Path.{_≡_}
 use mathlib.Core.List.{List}
 use Rattle.model.specs.Calls.{refuses, Filled, runOf}
 use Rattle.model.specs.Page.{pageOf}
+use Rattle.model.specs.Draw.{drawOf}
 
 -- a call, by the buffer that it is lent
 abbrev pub Keeps : (List ℕ → Filled) → Type 0
@@ -14,3 +15,4 @@ Keeps call = (buffer : List ℕ) (number position : ℕ) → call buffer .result
 pub record RefusalsKeep (table schedule : List ℕ) : Type 0 where
   pub run : Keeps (runOf table schedule)
   pub page : Keeps (pageOf table schedule)
+  pub draw : (seed : ℕ) → Keeps (drawOf table seed)

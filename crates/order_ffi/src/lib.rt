@@ -6,6 +6,7 @@ ghost use Rattle.model.specs.Site.{name};
 ghost use Rattle.model.specs.Calls.{runOf, readyOf, pairOf, sameOf};
 ghost use Rattle.model.specs.Recordings.{prefixOf, remainderOf};
 ghost use Rattle.model.specs.Page.{pageOf};
+ghost use Rattle.model.specs.Draw.{drawOf};
 ghost use Rattle.c_answers.specs.Fields.{checkFields, lengthFields, readyFields, pairFields, sameFields, remainderFields, RightFields};
 use c_answers::OrderCheck;
 use c_answers::OrderLength;
@@ -84,6 +85,15 @@ pub extern "C" fn order_remainder(first: &[u8], second: &[u8]) -> OrderRemainder
     ensures { λ r. ⌜ r ≡ remainderFields (remainderOf (length (now (first .entry))) (length (now (second .entry)))) ⌝ }
 {
     c_answers::remainder(remainder_call::part(first.len(), second.len()))
+}
+
+// Draws a schedule from a seed, from a fresh site, and writes its entries.
+#[no_mangle]
+pub extern "C" fn order_draw(table: &[u8], seed: u32, schedule: &mut [u8]) -> OrderLength
+    ensures answer { λ r. ⌜ r ≡ lengthFields (drawOf (now (table .entry)) seed (now (schedule .entry)) .result) ⌝ }
+    ensures lent { λ r. ⌜ now (schedule .exit) ≡ drawOf (now (table .entry)) seed (now (schedule .entry)) .lent ⌝ }
+{
+    c_answers::length(order::draw(table, seed, schedule))
 }
 
 // Writes a route from the first schedule to the second: a chain of exchanges, each by its position.

@@ -9,6 +9,7 @@ use lib.Dec.{ltb, lit<}
 use lib.ListN.{length, getD, take, drop, replicate, length-replicate}
 use lib.Seq.{take-length}
 use Rattle.table.specs.Outcome.{accepted as fine}
+use Rattle.table.specs.Promise.{WellFormed}
 use Rattle.trace.specs.Machine.{Name}
 use Rattle.trace.specs.Schedule.{accepted, names}
 use Rattle.model.specs.Site.{Port, unposted, initial}
@@ -17,9 +18,9 @@ use Rattle.model.proofs.Checks.{taken-checks}
 use Rattle.model.proofs.ReportBound.{entries-room}
 use Rattle.names.specs.InByte.{nameOf}
 use Rattle.state.specs.State.{recordOf, recordsOf, freshActor, commOf, commsOf, waitingOf, queuesOf, siteOf, portNumber}
-use Rattle.play.specs.Parts.{Fresh, Ended}
+use Rattle.play.specs.Parts.{Zeros, Ended}
 use Rattle.state.specs.declared.Actor.{Actor}
-use Rattle.play.proofs.Playing.{Playing}
+use Rattle.play.proofs.Playing.{Playing, Named}
 
 pub getD-alike : {A : Type 0} (n i : ℕ) (x : A) → getD (replicate n x) i x ≡ x
 getD-alike zero i x = refl
@@ -65,11 +66,11 @@ fresh-site log =
       queue = fresh-queues i;
     }
 
-start-zeros : (table schedule names′ : List ℕ) → Fresh table (zeros 256) (zeros 4096) (zeros 32) (zeros 72) names′
-    → Playing table schedule (zeros 256) (zeros 4096) (zeros 32) (zeros 72) names′ (replicate 8 freshActor) 0
-start-zeros table schedule names′ F =
+start-zeros : (table schedule : List ℕ) → WellFormed table
+    → Playing table schedule (zeros 256) (zeros 4096) (zeros 32) (zeros 72) (replicate 8 freshActor) 0
+start-zeros table schedule ok =
     record {
-      accepted-table = F .accepted;
+      accepted-table = ok;
       site = fresh-site (zeros 4096);
       taken = refl;
       index = omega arith;
@@ -89,25 +90,20 @@ start-zeros table schedule names′ F =
       };
       queue-room = record { long = length-replicate {A = ℕ} 72 0; bounded = λ m. omega (arith, getD-alike {A = ℕ} 72 (9 * m) 0) };
       tail-room = λ n. omega (arith, getD-alike {A = ℕ} 32 (2 * n + 1) 0);
-      names-long = F .zeros .names-long;
-      names-right = refl;
     }
 
 -- fresh arrays hold a fresh site
-pub playing-start : (table schedule comms log ends queues names′ : List ℕ) (actors : List Actor)
-    → Fresh table comms log ends queues names′ → actors ≡ replicate 8 freshActor
-    → Playing table schedule comms log ends queues names′ actors 0
-playing-start table schedule comms log ends queues names′ actors F e =
-    let z = F .zeros in
-    rw (z .comms-fresh, z .log-fresh, z .ends-fresh, z .queues-fresh, e)
-    (start-zeros table schedule names′
-    (record {
-      accepted = F .accepted;
-      zeros = record { comms-fresh = refl; log-fresh = refl; ends-fresh = refl; queues-fresh = refl; names-long = z .names-long };
-    }))
+pub playing-start : (table schedule comms log ends queues : List ℕ) (actors : List Actor)
+    → WellFormed table → Zeros comms log ends queues → actors ≡ replicate 8 freshActor
+    → Playing table schedule comms log ends queues actors 0
+playing-start table schedule comms log ends queues actors ok z e =
+    rw (z .comms-fresh, z .log-fresh, z .ends-fresh, z .queues-fresh, e) (start-zeros table schedule ok)
 
-module _ {table schedule comms log ends queues names′ : List ℕ} {actors : List Actor} {i : ℕ}
-    (P : Playing table schedule comms log ends queues names′ actors i) (through : length schedule ≤ i) where
+pub named-start : (table schedule names′ : List ℕ) → length names′ ≡ 256 → Named table schedule names′ 0
+named-start table schedule names′ long = record { names-long = long; names-right = refl }
+
+module _ {table schedule comms log ends queues : List ℕ} {actors : List Actor} {i : ℕ}
+    (P : Playing table schedule comms log ends queues actors i) (through : length schedule ≤ i) where
   all : i ≡ length schedule
   all = omega (arith, P .index)
 
@@ -120,8 +116,8 @@ module _ {table schedule comms log ends queues names′ : List ℕ} {actors : Li
   pub checks-end : (n : RefusalNumbers) → fine ≡ checkSchedule n table schedule
   checks-end n = sym (taken-checks table n initial 0 schedule taken-all)
 
-  pub ended : Ended table schedule comms log ends queues names′ actors
-  ended =
+  pub ended : {names′ : List ℕ} → Named table schedule names′ i → Ended table schedule comms log ends queues names′ actors
+  ended {names′} N =
       record {
         site = P .site ∙ ap (endState table) whole;
         actors-long = P .actors-long;
@@ -129,7 +125,7 @@ module _ {table schedule comms log ends queues names′ : List ℕ} {actors : Li
         mail-room = P .mail-room;
         queue-room = P .queue-room;
         entries-most = entries-room table (P .accepted-table) schedule taken-all;
-        names-long = P .names-long;
+        names-long = N .names-long;
         names-right =
-            ap (λ (n : ℕ). map nameOf (take n names′)) (sym all) ∙ P .names-right ∙ ap (names (machine table) initial) whole;
+            ap (λ (n : ℕ). map nameOf (take n names′)) (sym all) ∙ N .names-right ∙ ap (names (machine table) initial) whole;
       }

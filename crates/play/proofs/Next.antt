@@ -34,9 +34,9 @@ use Rattle.step.specs.Parts.{Steppable, StepTaken}
 use Rattle.state.specs.declared.Actor.{Actor}
 use Rattle.step.specs.declared.Stepped.{Stepped}
 use Rattle.names.proofs.InByte.{name-byte}
-use Rattle.model.proofs.Checks.{parts-ready, checks-after}
+use Rattle.model.proofs.Checks.{ready-parts, parts-ready, checks-after}
 use Rattle.play.proofs.Prefix.{accepted-more, final-more, names-more}
-use Rattle.play.proofs.Playing.{reached, Playing, records-set, join-most}
+use Rattle.play.proofs.Playing.{reached, Playing, Named, records-set, join-most}
 use Rattle.look.proofs.Sees.{see-parts, step-parts}
 
 map-more : (f : ℕ → Name) (l : List ℕ) (x : ℕ) → map f (l ++ (x ∷ [])) ≡ map f l ++ (f x ∷ [])
@@ -49,8 +49,8 @@ step-decides n taken i after h = absurd (true≢false h)
 step-decides n waiting i after h = refl
 step-decides n over i after h = refl
 
-module _ {table schedule comms log ends queues names′ : List ℕ} {actors : List Actor} {i : ℕ}
-    (P : Playing table schedule comms log ends queues names′ actors i) where
+module _ {table schedule comms log ends queues : List ℕ} {actors : List Actor} {i : ℕ}
+    (P : Playing table schedule comms log ends queues actors i) where
   abbrev here : Site
   here = siteOf actors comms log ends queues
 
@@ -110,6 +110,10 @@ module _ {table schedule comms log ends queues names′ : List ℕ} {actors : Li
         entry-untaken t e not n =
             step-decides n t i (checkFrom n table (step table (reached table schedule i) a) (suc i) (drop (suc i) schedule)) not
             ∙ sym (checks-here n ∙ rw (lt-ltb a (actorsOf table) in-table, still, step-here ∙ e))
+
+        -- the step of a ready actor is taken
+        pub step-taken : ready table (reached table schedule i) a ≡ true → stepOf table (seenFrom r (mailOf comms log ends) (queuesOf queues)) a x ≡ taken
+        step-taken e = sym step-here ∙ ready-parts table (reached table schedule i) a e .2
 
         ready-here : stepOf table (seenFrom r (mailOf comms log ends) (queuesOf queues)) a x ≡ taken → ready table (reached table schedule i) a ≡ true
         ready-here e = parts-ready table (reached table schedule i) a (lt-ltb a (actorsOf table) in-table) still (ap isTaken (step-here ∙ e))
@@ -180,18 +184,22 @@ module _ {table schedule comms log ends queues names′ : List ℕ} {actors : Li
           small-position : r .position < 32
           small-position = omega (arith, P .accepted-table .actions-most a in-table)
 
-          names-next : map nameOf (take (i + 1) (set names′ i (32 * a + r .position))) ≡ names (machine table) initial (take (i + 1) schedule)
-          names-next =
-              let in-names : i < length names′ = omega (arith, P .names-long, room-here) in
+          pub named-next : {names′ : List ℕ} → Named table schedule names′ i → Named table schedule (set names′ i (32 * a + r .position)) (i + 1)
+          named-next {names′} N =
+              let in-names : i < length names′ = omega (arith, N .names-long, room-here) in
               let written : take (i + 1) (set names′ i (32 * a + r .position)) ≡ take i names′ ++ ((32 * a + r .position) ∷ []) =
               ap (λ (n : ℕ). take n (set names′ i (32 * a + r .position))) (add-one i) ∙ take-suc-set names′ i (32 * a + r .position) in-names in
               let named : nameOf (32 * a + r .position) ≡ name a (reached table schedule i .actor a .position) =
               name-byte a (r .position) small-position ∙ ap (λ (q : Record). name a (q .position)) (sym (record-reached a)) in
-              ap (map nameOf) written ∙ map-more nameOf (take i names′) (32 * a + r .position)
-              ∙ ap₂ (λ (l : List Name) (y : Name). l ++ (y ∷ [])) (P .names-right) named
-              ∙ sym (ap (names (machine table) initial) one-more ∙ names-more (machine table) initial (take i schedule) a)
+              record {
+                names-long = simp length-set (N .names-long);
+                names-right =
+                    ap (map nameOf) written ∙ map-more nameOf (take i names′) (32 * a + r .position)
+                    ∙ ap₂ (λ (l : List Name) (y : Name). l ++ (y ∷ [])) (N .names-right) named
+                    ∙ sym (ap (names (machine table) initial) one-more ∙ names-more (machine table) initial (take i schedule) a);
+              }
 
-          pub playing-next : Playing table schedule comms′ log′ ends′ queues′ (set names′ i (32 * a + r .position)) (set actors a (s .actor)) (i + 1)
+          pub playing-next : Playing table schedule comms′ log′ ends′ queues′ (set actors a (s .actor)) (i + 1)
           playing-next =
               record {
                 accepted-table = P .accepted-table;
@@ -205,6 +213,4 @@ module _ {table schedule comms log ends queues names′ : List ℕ} {actors : Li
                 mail-room = T .mail-room;
                 queue-room = T .queue-room;
                 tail-room = λ n. omega (arith, T .grown n, P .tail-room n);
-                names-long = simp length-set (P .names-long);
-                names-right = names-next;
               }

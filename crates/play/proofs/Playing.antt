@@ -32,7 +32,7 @@ use Rattle.state.specs.declared.Actor.{Actor}
 abbrev pub reached : List ℕ → List ℕ → ℕ → Site
 reached table schedule i = final (machine table) initial (take i schedule)
 
-pub record Playing (table schedule comms log ends queues names′ : List ℕ) (actors : List Actor) (i : ℕ) : Type 0 where
+pub record Playing (table schedule comms log ends queues : List ℕ) (actors : List Actor) (i : ℕ) : Type 0 where
   pub accepted-table : WellFormed table
   pub site : siteOf actors comms log ends queues ≡ reached table schedule i
   pub taken : accepted (machine table) initial (take i schedule) ≡ true
@@ -42,6 +42,9 @@ pub record Playing (table schedule comms log ends queues names′ : List ℕ) (a
   pub mail-room : MailRoom comms log ends
   pub queue-room : QueueRoom queues
   pub tail-room : (n : ℕ) → tailIn ends n ≤ i
+
+-- where the names of the steps are kept: those of the entries so far
+pub record Named (table schedule names′ : List ℕ) (i : ℕ) : Type 0 where
   pub names-long : length names′ ≡ 256
   pub names-right : map nameOf (take i names′) ≡ names (machine table) initial (take i schedule)
 

@@ -17,17 +17,18 @@ use Rattle.play.specs.declared.Halt.{Halt}
 use Rattle.play.specs.declared.Halt.the-variants.{End, At}
 use Rattle.play.specs.declared.Played.{Played}
 
--- arrays of zeros, and an array for the names
-pub record Zeros (comms log ends queues names′ : List ℕ) : Type 0 where
+-- arrays of zeros
+pub record Zeros (comms log ends queues : List ℕ) : Type 0 where
   pub comms-fresh : comms ≡ replicate 256 0
   pub log-fresh : log ≡ replicate 4096 0
   pub ends-fresh : ends ≡ replicate 32 0
   pub queues-fresh : queues ≡ replicate 72 0
-  pub names-long : length names′ ≡ 256
 
+-- an accepted table, arrays of zeros, and an array for the names
 pub record Fresh (table comms log ends queues names′ : List ℕ) : Type 0 where
   pub accepted : WellFormed table
-  pub zeros : Zeros comms log ends queues names′
+  pub zeros : Zeros comms log ends queues
+  pub names-long : length names′ ≡ 256
 
 -- document 01's outcome for where a schedule halts, by the numbers of its refusals
 abbrev pub haltOf : RefusalNumbers → Halt → Outcome

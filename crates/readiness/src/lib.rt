@@ -44,8 +44,8 @@ pub fn answer(table: &[u8], actors: [Actor; 8], comms: &[u64; 256], queues: &[u8
     }
 }
 
-// Bit i of the mask is actor i's, from the last actor down.
-fn ready_mask(
+// Which actors are ready: bit i of the mask is actor i's, from the last actor down.
+pub fn ready_mask(
     table: &[u8],
     n: usize,
     actors: [Actor; 8],

@@ -30,7 +30,7 @@ returns c =
     (then-refused (readOf (s .args .table .now)) (checkSchedule firstNumbers (s .args .table .now) (s .args .schedule .now)) _ _ (sym (r .ensures .0) ∙ refusing (r .result) (c .before .match .keys2)))
 
 play-requires : tie.Need-play-requires
-play-requires c κs = record { accepted = c .before .before .before .before .before .before .before .read .ensures .1 (c .before .before .before .before .before .enum-told .given .1); zeros = c .before .before .before .before .before .before .before .before .before .before .pre }
+play-requires c κs = record { accepted = c .before .before .before .before .before .before .before .read .ensures .1 (c .before .before .before .before .before .enum-told .given .1); zeros = c .before .before .before .before .before .before .before .before .before .before .pre .0; names-long = c .before .before .before .before .before .before .before .before .before .before .pre .1 }
 
 enum-told-2 : tie.Need-enum-told-2
 enum-told-2 c = search needs

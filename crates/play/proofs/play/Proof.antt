@@ -16,16 +16,16 @@ use Rattle.state.proofs.Within.{getD-within}
 use Rattle.step.specs.Parts.{Steppable}
 use Rattle.step.proofs.Taken.{position-small, actor-small}
 use Rattle.play.specs.declared.Halt.the-variants.{End, At}
-use Rattle.play.proofs.Playing.{Playing}
+use Rattle.play.proofs.Playing.{Playing, Named}
 use Rattle.play.proofs.Next.{entries-so-far, entry-absent}
-use Rattle.play.proofs.Entry.{refusal, finished-as, untaken-as, steppable-as, room-as, next-as}
-use Rattle.play.proofs.Ends.{playing-start, checks-end, ended}
+use Rattle.play.proofs.Entry.{refusal, finished-as, untaken-as, steppable-as, room-as, next-as, named-as}
+use Rattle.play.proofs.Ends.{playing-start, named-start, checks-end, ended}
 use Rattle.play.proofs.play.Statement.{statement}
 use Rattle.play.proofs.play.Tie as tie
 
 abbrev Inv-loop : tie.InvT-loop
 Inv-loop table schedule comms₀ log₀ ends₀ queues₀ names₀ n actors₀ i₀ comms log ends queues names actors i =
-    Playing table schedule comms log ends queues names actors i
+    Playing table schedule comms log ends queues actors i × Named table schedule names i
 
 abbrev μ-loop : tie.MeasureT-loop
 μ-loop table schedule comms₀ log₀ ends₀ queues₀ names₀ n actors₀ i₀ comms log ends queues names actors i =
@@ -53,7 +53,7 @@ in-table : (e : tie.Else1 Inv-loop μ-loop) → actorAt e < actorsOf (tableAt e)
 in-table e = omega (arith, turn e .before .before .actors .ensures, e .if1 .left)
 
 in-actors : (e : tie.Else1 Inv-loop μ-loop) → actorAt e < length (turn e .loop .actors)
-in-actors e = omega (arith, turn e .loop .inv .actors-long, turn e .loop .inv .accepted-table .actors-most, in-table e)
+in-actors e = omega (arith, turn e .loop .inv .0 .actors-long, turn e .loop .inv .0 .accepted-table .actors-most, in-table e)
 
 own-record : (e : tie.Else1 Inv-loop μ-loop) → recordAt e ≡ getD (turn e .loop .actors) (actorAt e) freshActor
 own-record e = getD-within (turn e .loop .actors) (actorAt e) _ _ (in-actors e)
@@ -69,7 +69,7 @@ can-step : (e : tie.Else2 Inv-loop μ-loop) → let l = turn (found e) .loop in
     Steppable (tableAt (found e)) (actorAt (found e)) (recordAt (found e)) (l .comms) (l .log) (l .ends) (l .queues)
 can-step e =
     let f = found e in
-    steppable-as (turn f .loop .inv) (f .before .before .before .loop-test .taken) (actorAt f) (f .before .wide .ensures .0) (recordAt f) (own-record f)
+    steppable-as (turn f .loop .inv .0) (f .before .before .before .loop-test .taken) (actorAt f) (f .before .wide .ensures .0) (recordAt f) (own-record f)
     (in-table f) (left e)
 
 -- after its step
@@ -86,7 +86,8 @@ fresh-requires c κs = search needs
 
 loop-holds : tie.Need-loop-holds Inv-loop μ-loop
 loop-holds c =
-    playing-start _ _ _ _ _ _ _ _ (c .before .before .before .before .pre) (ap (replicate 8) (c .fresh .ensures))
+    let F = c .before .before .before .before .pre in
+    (playing-start _ _ _ _ _ _ _ (F .accepted) (F .zeros) (ap (replicate 8) (c .fresh .ensures)), named-start _ _ _ (F .names-long))
 
 shared-slice-read-wide : tie.Need-shared-slice-read-wide Inv-loop μ-loop
 shared-slice-read-wide c = search needs
@@ -96,32 +97,32 @@ wide-requires c κs = search needs
 
 cast-t22 : tie.Need-cast-t22 Inv-loop μ-loop
 cast-t22 c =
-    omega (arith, entries-so-far (c .before .before .before .before .loop .inv))
+    omega (arith, entries-so-far (c .before .before .before .before .loop .inv .0))
 
 returns : tie.Need-returns Inv-loop μ-loop
 returns c =
     let l = c .before .before .before .before .loop in
     refusal (record { halt = At (Absent (l .i)); actors = l .actors }) not-end
-    (entry-absent (l .inv) (c .before .before .before .loop-test .taken)
+    (entry-absent (l .inv .0) (c .before .before .before .loop-test .taken)
     (omega (arith, c .before .wide .ensures .0, c .before .before .before .before .before .before .actors .ensures, c .if1 .taken)))
 
 mul-r : tie.Need-mul-r Inv-loop μ-loop
-mul-r c = omega (arith, turn c .loop .inv .actors-long, in-actors c)
+mul-r c = omega (arith, turn c .loop .inv .0 .actors-long, in-actors c)
 
 array-copy-out-r : tie.Need-array-copy-out-r Inv-loop μ-loop
-array-copy-out-r c = omega (arith, turn c .loop .inv .actors-long, in-actors c)
+array-copy-out-r c = omega (arith, turn c .loop .inv .0 .actors-long, in-actors c)
 
 actions-requires : tie.Need-actions-requires Inv-loop μ-loop
 actions-requires c κs = search needs
 
 cast-t29 : tie.Need-cast-t29 Inv-loop μ-loop
-cast-t29 c = omega (arith, entries-so-far (turn (c .before .before .before) .loop .inv))
+cast-t29 c = omega (arith, entries-so-far (turn (c .before .before .before) .loop .inv .0))
 
 returns-2 : tie.Need-returns-2 Inv-loop μ-loop
 returns-2 c =
     let f = c .before .before .before in
     refusal (record { halt = At (Finished (turn f .loop .i)); actors = turn f .loop .actors }) not-end
-    (finished-as (turn f .loop .inv) (f .before .before .before .loop-test .taken) (actorAt f) (f .before .wide .ensures .0) (recordAt f) (own-record f)
+    (finished-as (turn f .loop .inv .0) (f .before .before .before .loop-test .taken) (actorAt f) (f .before .wide .ensures .0) (recordAt f) (own-record f)
     (in-table f) (omega (arith, c .before .actions .ensures, c .if2 .taken)))
 
 step-requires : tie.Need-step-requires Inv-loop μ-loop
@@ -143,20 +144,20 @@ element-write-names : tie.Need-element-write-names Inv-loop μ-loop
 element-write-names c =
     let s = c .before .before .before in
     let f = found (stepped s) in
-    let room = room-as (turn f .loop .inv) (f .before .before .before .loop-test .taken) (actorAt f) (f .before .wide .ensures .0) (recordAt f) (own-record f)
+    let room = room-as (turn f .loop .inv .0) (f .before .before .before .loop-test .taken) (actorAt f) (f .before .wide .ensures .0) (recordAt f) (own-record f)
     (in-table f) (left (stepped s)) (s .step .ensures) (ap stepAs (c .before .enum-told .given .1)) in
-    omega (arith, turn f .loop .inv .names-long, room)
+    omega (arith, turn f .loop .inv .1 .names-long, room)
 
 mul-actors : tie.Need-mul-actors Inv-loop μ-loop
 mul-actors c =
-    let f = found (stepped (c .before .before .before)) in omega (arith, turn f .loop .inv .actors-long, in-actors f)
+    let f = found (stepped (c .before .before .before)) in omega (arith, turn f .loop .inv .0 .actors-long, in-actors f)
 
 array-set-from-actors : tie.Need-array-set-from-actors Inv-loop μ-loop
 array-set-from-actors c =
-    let f = found (stepped (c .before .before .before)) in omega (arith, turn f .loop .inv .actors-long, in-actors f)
+    let f = found (stepped (c .before .before .before)) in omega (arith, turn f .loop .inv .0 .actors-long, in-actors f)
 
 add-i : tie.Need-add-i Inv-loop μ-loop
-add-i c = omega (arith, entries-so-far (turn (found (stepped (c .before .before .before))) .loop .inv))
+add-i c = omega (arith, entries-so-far (turn (found (stepped (c .before .before .before))) .loop .inv .0))
 
 loop-less : tie.Need-loop-less Inv-loop μ-loop
 loop-less c = search needs
@@ -165,40 +166,44 @@ loop-again : tie.Need-loop-again Inv-loop μ-loop
 loop-again c =
     let s = c .before .before .before in
     let f = found (stepped s) in
-    next-as (turn f .loop .inv) (f .before .before .before .loop-test .taken) (actorAt f) (f .before .wide .ensures .0) (recordAt f) (own-record f)
-    (in-table f) (left (stepped s)) (s .step .ensures) (ap stepAs (c .before .enum-told .given .1))
+    let go = ap stepAs (c .before .enum-told .given .1) in (
+      next-as (turn f .loop .inv .0) (f .before .before .before .loop-test .taken) (actorAt f) (f .before .wide .ensures .0) (recordAt f) (own-record f)
+          (in-table f) (left (stepped s)) (s .step .ensures) go,
+      named-as (turn f .loop .inv .0) (f .before .before .before .loop-test .taken) (actorAt f) (f .before .wide .ensures .0) (recordAt f) (own-record f)
+          (in-table f) (left (stepped s)) (s .step .ensures) go (turn f .loop .inv .1),
+    )
 
 enum-told-2 : tie.Need-enum-told-2 Inv-loop μ-loop
 enum-told-2 c = search needs
 
 cast-t44 : tie.Need-cast-t44 Inv-loop μ-loop
-cast-t44 c = omega (arith, entries-so-far (turn (found (stepped (c .before .before))) .loop .inv))
+cast-t44 c = omega (arith, entries-so-far (turn (found (stepped (c .before .before))) .loop .inv .0))
 
 returns-3 : tie.Need-returns-3 Inv-loop μ-loop
 returns-3 c =
     let s = c .before .before in
     let f = found (stepped s) in
     refusal (record { halt = At (Waiting (turn f .loop .i)); actors = turn f .loop .actors }) not-end
-    (untaken-as (turn f .loop .inv) (f .before .before .before .loop-test .taken) (actorAt f) (f .before .wide .ensures .0) (recordAt f) (own-record f)
+    (untaken-as (turn f .loop .inv .0) (f .before .before .before .loop-test .taken) (actorAt f) (f .before .wide .ensures .0) (recordAt f) (own-record f)
     (in-table f) (left (stepped s)) waiting (sym (s .step .ensures .next-right) ∙ ap stepAs (c .enum-told2 .given .1)) refl)
 
 enum-told-3 : tie.Need-enum-told-3 Inv-loop μ-loop
 enum-told-3 c = search needs
 
 cast-t48 : tie.Need-cast-t48 Inv-loop μ-loop
-cast-t48 c = omega (arith, entries-so-far (turn (found (stepped (c .before .before))) .loop .inv))
+cast-t48 c = omega (arith, entries-so-far (turn (found (stepped (c .before .before))) .loop .inv .0))
 
 returns-4 : tie.Need-returns-4 Inv-loop μ-loop
 returns-4 c =
     let s = c .before .before in
     let f = found (stepped s) in
     refusal (record { halt = At (Over (turn f .loop .i)); actors = turn f .loop .actors }) not-end
-    (untaken-as (turn f .loop .inv) (f .before .before .before .loop-test .taken) (actorAt f) (f .before .wide .ensures .0) (recordAt f) (own-record f)
+    (untaken-as (turn f .loop .inv .0) (f .before .before .before .loop-test .taken) (actorAt f) (f .before .wide .ensures .0) (recordAt f) (own-record f)
     (in-table f) (left (stepped s)) over (sym (s .step .ensures .next-right) ∙ ap stepAs (c .enum-told3 .given .1)) refl)
 
 returns-5 : tie.Need-returns-5 Inv-loop μ-loop
 returns-5 c =
-    record { halted = λ n. checks-end (c .before .loop .inv) (c .loop-test .left) n; ended = λ e. ended (c .before .loop .inv) (c .loop-test .left) }
+    record { halted = λ n. checks-end (c .before .loop .inv .0) (c .loop-test .left) n; ended = λ e. ended (c .before .loop .inv .0) (c .loop-test .left) (c .before .loop .inv .1) }
 
 pub play-spec : {M : Type 1} → statement M
 play-spec =

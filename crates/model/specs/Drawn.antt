@@ -1,0 +1,61 @@
+-- What a made schedule is, and that a seed determines its load (document 02, W4). `proofs/Drawn.antt` proves it of every table that the reader
+-- accepts.
+-- Assumes nothing: these are definitions.
+use Prim.Native.Nat.{ℕ, _≤_}
+use mathlib.Core.Path.{_≡_}
+use mathlib.Core.Logic.{_⊎_}
+use mathlib.Core.Bool.{true, false}
+use mathlib.Core.List.{List, [], _∷_}
+use lib.ListN.{length, take}
+use Rattle.table.specs.Outcome.{accepted}
+use Rattle.table.specs.Read.{readOf}
+use Rattle.model.specs.Site.{Site, initial}
+use Rattle.model.specs.Step.{ready, step}
+use Rattle.model.specs.Ready.{howMany, readyCount, finished, stuck, ending}
+use Rattle.model.specs.Schedule.{endState}
+use Rattle.model.specs.Calls.{gives}
+use Rattle.model.specs.Bound.{actionCount}
+use Rattle.model.specs.Demand3.{Accepted}
+use Rattle.model.specs.Scheduler.{Rule, scheduleRoom, entriesFrom, madeFrom}
+use Rattle.model.specs.Draw.{draw, rankBy, drawing, drawnFrom, drawOf}
+
+-- of a schedule made by any rule
+pub record Scheduled (rule : Rule) (table : List ℕ) (start : ℕ) : Type 0 where
+  -- it is accepted from a fresh site
+  pub taken : Accepted table (madeFrom rule table start)
+  -- its end is finished or stuck
+  pub ended : (ending table (endState table (madeFrom rule table start)) ≡ finished) ⊎ (ending table (endState table (madeFrom rule table start)) ≡ stuck)
+  -- it has at most as many entries as the table has actions, so at most 256
+  pub most : length (madeFrom rule table start) ≤ actionCount table
+  pub room : actionCount table ≤ scheduleRoom
+  -- the definition's bound does not matter: with every other that the actions do not pass the entries are these
+  pub any-bound : (bound : ℕ) → actionCount table ≤ bound → entriesFrom rule table bound initial start ≡ madeFrom rule table start
+
+module _ (table : List ℕ) where
+  -- how many ready actors come before an actor
+  abbrev pub rankIn : Site → ℕ → ℕ
+  rankIn s a = howMany (ready table s) a 0
+
+  -- a schedule follows the rule from a state on: each entry is a ready actor of the state before it, with the rank that the draw of its turn takes,
+  -- and nobody is ready at the end
+  abbrev pub Follows : Site → (x : ℕ) → List ℕ → Type 0
+  Follows s x [] = (a : ℕ) → ready table s a ≡ false
+  Follows s x (a ∷ rest) =
+      (ready table s a ≡ true) × (rankIn s a ≡ rankBy (draw x) (readyCount table s)) × Follows (step table s a) (draw x) rest
+
+pub record Drawn (table : List ℕ) : Type 0 where
+  pub scheduled : (seed : ℕ) → Scheduled drawing table seed
+  -- it follows the rule, and no other schedule does
+  pub follows : (seed : ℕ) → Follows table initial seed (drawnFrom table seed)
+  pub only : (seed : ℕ) (schedule : List ℕ) → Follows table initial seed schedule → schedule ≡ drawnFrom table seed
+
+abbrev pub EveryDraw : Type 0
+EveryDraw = (table : List ℕ) → readOf table ≡ accepted → Drawn table
+
+-- two technicians with one table and one seed, each with a buffer of enough room: the same answer, and the same entries whatever the buffers held
+pub record OneLoad (table : List ℕ) (seed : ℕ) (mine yours : List ℕ) : Type 0 where
+  pub answers : drawOf table seed mine .result ≡ drawOf table seed yours .result
+  pub entries : (n : ℕ) → drawOf table seed mine .result ≡ gives n → take n (drawOf table seed mine .lent) ≡ take n (drawOf table seed yours .lent)
+
+abbrev pub TwoTechnicians : Type 0
+TwoTechnicians = (table : List ℕ) (seed : ℕ) (mine yours : List ℕ) → scheduleRoom ≤ length mine → scheduleRoom ≤ length yours → OneLoad table seed mine yours

@@ -1,0 +1,3 @@
+-- A schedule in the making.
+pub mod Masks
+pub mod Making

@@ -1,0 +1,2 @@
+-- What making a schedule takes and leaves.
+pub mod Parts
