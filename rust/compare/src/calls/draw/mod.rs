@@ -90,17 +90,16 @@ fn sweep(rng: &mut Rng, each: &mut Each<'_>) -> ControlFlow<()> {
     ControlFlow::Continue(())
 }
 
-/// Measures it on a load, from one seed.
+/// Measures it on a load.
 pub fn measure(measure: &mut impl Measure, load: &Load) {
-    const SEED: u32 = 1;
     let (mut ours, mut theirs) = ([0; SCHEDULE_MOST], [0; SCHEDULE_MOST]);
     measure.measure(
         CALL.name,
         load,
         |work| {
-            let schedule = order_engine::draw(&work.table, SEED, &mut ours);
+            let schedule = order_engine::draw(&work.table, work.seed, &mut ours);
             schedule.expect("accepted").len()
         },
-        |work| quick::draw(&work.table, SEED, &mut theirs).expect("accepted"),
+        |work| quick::draw(&work.table, work.seed, &mut theirs).expect("accepted"),
     );
 }
