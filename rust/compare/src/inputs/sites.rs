@@ -12,11 +12,7 @@ use crate::inputs::steps::suited;
 use crate::inputs::totals;
 
 /// The families, each as often as it shall have its turn.
-pub const SITES: [Family; 24] = [
-    contended,
-    contended,
-    contended,
-    contended,
+pub const SITES: [Family; 16] = [
     contended,
     contended,
     contended,
@@ -24,16 +20,12 @@ pub const SITES: [Family; 24] = [
     contended,
     contended,
     waiting,
-    waiting,
     over,
-    over,
-    open,
     open,
     idle,
     deep_mailbox,
     deep_mutex,
     of_digits,
-    damaged,
     damaged,
     damaged,
     damaged,
@@ -63,7 +55,7 @@ fn over(rng: &mut Rng) -> Vec<u8> {
 }
 
 /// Nothing that waits, mostly with all that a table can hold: it runs to its end.
-pub fn open(rng: &mut Rng) -> Vec<u8> {
+fn open(rng: &mut Rng) -> Vec<u8> {
     let shape = match rng.once_in(3) {
         true => Shape::any(rng),
         false => Shape::maximal(),

@@ -13,13 +13,13 @@ use crate::table::Table;
 /// As [`crate::draw()`].
 pub fn draw(table: &[u8], seed: u32, buffer: &mut [u8]) -> Result<usize, Refusal> {
     let table = room_and_table(table, buffer)?;
-    let mut turns = Turns::fresh(&table);
+    let mut running = Running::fresh(&table);
     let mut x = seed;
     let mut length = 0;
-    while turns.ready != 0 {
+    while running.ready != 0 {
         x = x.wrapping_mul(1_664_525).wrapping_add(1_013_904_223);
-        let actor = nth(turns.ready, (x >> 16) % turns.ready.count_ones());
-        turns.step(actor);
+        let actor = nth(running.ready, (x >> 16) % running.ready.count_ones());
+        running.step(actor);
         buffer[length] = actor as u8;
         length += 1;
     }
@@ -35,7 +35,7 @@ fn nth(mut mask: u8, rank: u32) -> usize {
 }
 
 /// A site, each actor's next action, who is ready and who waits.
-struct Turns<'a> {
+struct Running<'a> {
     scripts: [&'a [[u8; 8]]; 8],
     site: Site,
     next: [Action; 8],
@@ -43,9 +43,9 @@ struct Turns<'a> {
     waiting: u8,
 }
 
-impl<'a> Turns<'a> {
+impl<'a> Running<'a> {
     fn fresh(table: &Table<'a>) -> Self {
-        let mut turns = Self {
+        let mut running = Self {
             scripts: table.scripts(),
             site: Site::fresh(),
             next: [Action::decode([0; 8]); 8],
@@ -53,9 +53,9 @@ impl<'a> Turns<'a> {
             waiting: 0,
         };
         for actor in 0..table.actors() {
-            turns.come_to(actor);
+            running.come_to(actor);
         }
-        turns
+        running
     }
 
     /// Steps an actor that is ready.
