@@ -1,10 +1,10 @@
 /* The order engine's calls for C. The library is target/staticlib/liborder_ffi.a, for x86-64 Linux.
  *
  * A slice is passed as a pointer and a number of elements. A call reads and writes no byte outside
- * the slices that it is lent, and writes only the report, the page and the route; it keeps no pointer
- * and has no state, so that calls may run in several threads at once. Where the number is 0, the
- * pointer may be null. Otherwise it points at so many elements and is aligned for their type. A slice
- * that is written shares no byte with another.
+ * the slices that it is lent, and writes only the report, the page, the drawn schedule and the route; it
+ * keeps no pointer and has no state, so that calls may run in several threads at once. Where the number is
+ * 0, the pointer may be null. Otherwise it points at so many elements and is aligned for their type. A
+ * slice that is written shares no byte with another.
  *
  * In every answer but that of order_remainder, which refuses nothing, `refusal` is 0 where the call
  * accepted, otherwise the number of the refusal, and `position` is its position; the other fields are
@@ -64,8 +64,11 @@ enum OrderRefusal {
     /* An entry, in the place of 13 and of 16 where its actor's next step is an Add whose sum would pass
      * 4,294,967,295, so that it is never ready; position its index.
      */
-    ORDER_REFUSED_OVER = 21,       /* of the schedule, or of the first of two */
-    ORDER_REFUSED_SECOND_OVER = 22 /* of the second schedule */
+    ORDER_REFUSED_OVER = 21,        /* of the schedule, or of the first of two */
+    ORDER_REFUSED_SECOND_OVER = 22, /* of the second schedule */
+
+    /* The buffer for a schedule that is made; position 0. */
+    ORDER_REFUSED_SCHEDULE_ROOM = 23 /* it has under ORDER_SCHEDULE_MOST bytes */
 };
 
 /* The longest table has so many bytes, and the longest accepted schedule so many entries. */
@@ -138,6 +141,23 @@ typedef struct {
  */
 OrderPage order_page(const uint8_t *table, size_t table_length, const uint8_t *schedule, size_t schedule_length,
                      uint8_t *page, size_t page_length);
+
+/* What a draw answers: the number of entries that were written. */
+typedef struct {
+    uint32_t refusal;
+    uint32_t position;
+    uint32_t length;
+} OrderDraw;
+
+/* Makes the schedule that a seed determines and writes it into the first bytes of `schedule`, which wants
+ * ORDER_SCHEDULE_MOST bytes whatever the table: one byte for each entry, as order_run takes it. x begins as the seed.
+ * Before each step x becomes 1664525 x + 1013904223 modulo 2^32, and of the ready actors, in ascending order, the one
+ * with the rank (x div 65536) modulo their number is stepped, counted from 0; also where there is one alone. It ends
+ * when nobody is ready, finished or stuck. The bytes after the entries stay as they were. Refusals, in this order: 23;
+ * 1 to 9.
+ */
+OrderDraw order_draw(const uint8_t *table, size_t table_length, uint32_t seed, uint8_t *schedule,
+                     size_t schedule_length);
 
 /* What order_pair says of two steps. */
 enum OrderPairVerdict {

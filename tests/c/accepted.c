@@ -1,4 +1,6 @@
-/* The ready answer and the page: every field, the page to the byte, and the rest of what was lent as it was. */
+/* The ready answer, the page and the draw: every field, what is written to the byte, and the rest of what was lent as
+ * it was.
+ */
 #include "checks.h"
 
 #include <string.h>
@@ -24,4 +26,18 @@ void page_is(Lent lent, const char *page)
     expect_number(answer.length, (uint32_t)length, "order_page", "the page's length");
     expect(memcmp(lent.bytes, page, length) == 0, "order_page", "the page is another");
     expect_kept(&lent, length, 0, "order_page");
+}
+
+void draw_is(Lent lent, uint32_t seed, const uint8_t *schedule, size_t length, uint32_t ending)
+{
+    OrderDraw answer = order_draw(lent.table, lent.table_length, seed, lent.bytes, lent.bytes_length);
+    expect_number(answer.refusal, ORDER_ACCEPTED, "order_draw", "the refusal");
+    expect_number(answer.position, 0, "order_draw", "the position");
+    expect_number(answer.length, (uint32_t)length, "order_draw", "the schedule's length");
+    expect(memcmp(lent.bytes, schedule, length) == 0, "order_draw", "the schedule is another");
+    expect_kept(&lent, length, 0, "order_draw");
+
+    OrderReady end = order_ready(lent.table, lent.table_length, lent.bytes, length);
+    expect_number(end.refusal, ORDER_ACCEPTED, "order_ready of a drawn schedule", "the refusal");
+    expect_number(end.ending, ending, "order_ready of a drawn schedule", "the ending");
 }

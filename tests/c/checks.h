@@ -8,7 +8,6 @@
 
 enum {
     TABLE_A = 44, /* the bytes of table A */
-    LONGEST = 64, /* the longest table that is lent */
     ENTRIES = 4,  /* the longest schedule of table A */
     ROUTE = ORDER_ROUTE_ROOM(ENTRIES)
 };
@@ -24,13 +23,13 @@ void expect_number(uint32_t is, uint32_t wanted, const char *call, const char *w
 
 /* What a call is lent, with copies to compare with. */
 typedef struct {
-    uint8_t table[LONGEST], table_before[LONGEST];
+    uint8_t table[ORDER_TABLE_MOST], table_before[ORDER_TABLE_MOST];
     size_t table_length;
     uint8_t first[ENTRIES + 4], first_before[ENTRIES + 4];
     size_t first_length;
     uint8_t second[ENTRIES + 4], second_before[ENTRIES + 4];
     size_t second_length;
-    uint8_t bytes[ORDER_REPORT_ROOM + 8], bytes_before[ORDER_REPORT_ROOM + 8]; /* for a report or a page */
+    uint8_t bytes[ORDER_REPORT_ROOM + 8], bytes_before[ORDER_REPORT_ROOM + 8]; /* for a report, a page or a drawn schedule */
     size_t bytes_length;
     uint16_t route[ROUTE + 2], route_before[ROUTE + 2];
     size_t route_length;
@@ -51,6 +50,7 @@ void expect_check_refused(OrderCheck answer, uint32_t number, uint32_t position)
 void expect_run_refused(OrderRun answer, uint32_t number, uint32_t position);
 void expect_ready_refused(OrderReady answer, uint32_t number, uint32_t position);
 void expect_page_refused(OrderPage answer, uint32_t number, uint32_t position);
+void expect_draw_refused(OrderDraw answer, uint32_t number, uint32_t position);
 void expect_pair_refused(OrderPair answer, uint32_t number, uint32_t position);
 void expect_same_refused(OrderSame answer, uint32_t number, uint32_t position);
 void expect_route_refused(OrderRoute answer, uint32_t number, uint32_t position);
@@ -60,6 +60,7 @@ void check_refused(Lent lent, uint32_t number, uint32_t position);
 void run_refused(Lent lent, uint32_t number, uint32_t position);
 void ready_refused(Lent lent, uint32_t number, uint32_t position);
 void page_refused(Lent lent, uint32_t number, uint32_t position);
+void draw_refused(Lent lent, uint32_t number, uint32_t position);
 void pair_refused(Lent lent, const uint8_t steps[4], uint32_t number, uint32_t position);
 void same_refused(Lent lent, uint32_t number, uint32_t position);
 void prefix_refused(Lent lent, uint32_t number, uint32_t position);
@@ -74,6 +75,7 @@ void entry_refused(const uint8_t *table, size_t table_length, const uint8_t *sch
 /* A call accepted with this answer, and the rest of what it was lent as it was. */
 void ready_is(Lent lent, uint32_t mask, uint32_t count, uint32_t ending);
 void page_is(Lent lent, const char *page);
+void draw_is(Lent lent, uint32_t seed, const uint8_t *schedule, size_t length, uint32_t ending);
 
 /* Cells of a page that hold 0. */
 #define ZERO "          0"
@@ -84,6 +86,7 @@ void tables(void);
 void stepping(void);
 void lines(void);
 void sums(void);
+void draws(void);
 void verdicts(void);
 void recordings(void);
 void empty_slices(void);

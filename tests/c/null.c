@@ -70,6 +70,17 @@ static void pages(void)
     expect_kept(&lent, 204, 0, "order_page without a schedule");
 }
 
+static void drawing(void)
+{
+    Lent lent = both();
+    OrderDraw answer = order_draw(NULL, 0, 1, lent.bytes, lent.bytes_length);
+    expect_draw_refused(answer, ORDER_REFUSED_SHORT_TABLE, 0);
+    answer = order_draw(lent.table, lent.table_length, 1, NULL, 0);
+    expect_draw_refused(answer, ORDER_REFUSED_SCHEDULE_ROOM, 0);
+    expect_draw_refused(order_draw(NULL, 0, 1, NULL, 0), ORDER_REFUSED_SCHEDULE_ROOM, 0);
+    expect_kept(&lent, 0, 0, "order_draw without a table or a buffer");
+}
+
 static void expect_verdict(OrderSame answer, uint32_t verdict)
 {
     expect_number(answer.refusal, ORDER_ACCEPTED, "a verdict without a schedule", "the refusal");
@@ -130,6 +141,7 @@ void empty_slices(void)
     runs();
     readies();
     pages();
+    drawing();
     judged(order_same, "order_same", ORDER_DIFFERENT);
     judged(order_prefix, "order_prefix", ORDER_SAME);
     routes();

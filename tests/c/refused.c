@@ -32,6 +32,12 @@ void expect_page_refused(OrderPage answer, uint32_t number, uint32_t position)
     expect_number(answer.length, 0, "order_page", "the length at a refusal");
 }
 
+void expect_draw_refused(OrderDraw answer, uint32_t number, uint32_t position)
+{
+    expect_refusal(answer.refusal, answer.position, number, position, "order_draw");
+    expect_number(answer.length, 0, "order_draw", "the length at a refusal");
+}
+
 void expect_pair_refused(OrderPair answer, uint32_t number, uint32_t position)
 {
     expect_refusal(answer.refusal, answer.position, number, position, "order_pair");
@@ -77,6 +83,13 @@ void page_refused(Lent lent, uint32_t number, uint32_t position)
                                   lent.bytes_length);
     expect_page_refused(answer, number, position);
     expect_kept(&lent, 0, 0, "order_page");
+}
+
+void draw_refused(Lent lent, uint32_t number, uint32_t position)
+{
+    OrderDraw answer = order_draw(lent.table, lent.table_length, 1, lent.bytes, lent.bytes_length);
+    expect_draw_refused(answer, number, position);
+    expect_kept(&lent, 0, 0, "order_draw");
 }
 
 void pair_refused(Lent lent, const uint8_t steps[4], uint32_t number, uint32_t position)

@@ -12,6 +12,7 @@ static void table_refused(const uint8_t *table, size_t length, uint32_t number, 
     run_refused(lent, number, position);
     ready_refused(lent, number, position);
     page_refused(lent, number, position);
+    draw_refused(lent, number, position);
     pair_refused(lent, steps, number, position);
     same_refused(lent, number, position);
     prefix_refused(lent, number, position);

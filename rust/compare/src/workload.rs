@@ -6,13 +6,13 @@ use crate::inputs::mix::Mix;
 use crate::inputs::rng::Rng;
 use crate::inputs::sample::Shape;
 use order_engine::StepName;
-use reference::check;
+use reference::{SCHEDULE_MOST, check, draw};
 use tables::TABLE_A;
 
 /// How many different tables a measurement goes through, where it is more than one.
 const TABLES: usize = 16;
 
-/// What a call is given: a table, two same schedules that run it to its end, and two of its steps.
+/// What a call is given: a table, two same schedules that run it to its end, two of its steps, and a seed.
 #[derive(Clone, Debug)]
 pub struct Work {
     /// The table.
@@ -25,6 +25,8 @@ pub struct Work {
     pub begun: Vec<u8>,
     /// A step of the first actor and one of the last.
     pub steps: [StepName; 2],
+    /// The least seed whose drawn schedule runs every action.
+    pub seed: u32,
 }
 
 impl Work {
@@ -64,6 +66,7 @@ pub fn loads() -> Vec<Load> {
                 second: vec![1, 0, 0, 1],
                 begun: vec![1, 0, 0],
                 steps: [StepName::new(0, 1), StepName::new(1, 1)],
+                seed: 0,
             }],
         },
         Load {
@@ -92,15 +95,23 @@ fn made(rng: &mut Rng, shape: impl Fn() -> Shape) -> Vec<Work> {
         let checked = check(&sample.bytes).expect("the table is right");
         let second = by_actor(&checked, &first);
         let begun = by_actor(&checked, part(&first));
+        let seed = running_all(&sample.bytes, first.len());
         Work {
             table: sample.bytes,
             first,
             second,
             begun,
             steps,
+            seed,
         }
     });
     works.collect()
+}
+
+/// The least seed whose drawn schedule has so many entries.
+fn running_all(table: &[u8], entries: usize) -> u32 {
+    let runs = |&seed: &u32| draw(table, seed, &mut [0; SCHEDULE_MOST]) == Ok(entries);
+    (0..1_000).find(runs).expect("a seed runs every action")
 }
 
 /// What is done with a call on a load. Both engines answer with a number that they must agree on.

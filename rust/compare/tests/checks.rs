@@ -1,11 +1,11 @@
 //! What every call is held to, with engines made up for each mistake: it is found, and shown with its
 //! input.
 
-use compare::calls::{remainder, run, same};
+use compare::calls::{draw, remainder, run, same};
 use compare::harness::call::Call;
 use compare::harness::sides::difference;
 use compare::harness::slots::{Input, Lent};
-use reference::REPORT_ROOM;
+use reference::{REPORT_ROOM, SCHEDULE_MOST};
 use tables::TABLE_A;
 
 /// A run of table A with more room than its report takes.
@@ -110,6 +110,52 @@ fn a_remainder_of_the_other_recording() {
     assert!(said.contains("engine:           accepted, values [2, 2, 0]"));
     assert!(said.contains("reference:        accepted, values [1, 2, 0]"));
     assert!(difference(&remainder::CALL, &input).is_none());
+}
+
+/// Table A and a seed.
+fn seeded(seed: u32) -> Input {
+    Input {
+        read: [TABLE_A.to_vec(), Vec::new(), Vec::new()],
+        numbers: [seed, 0, 0, 0],
+        bytes: vec![7; SCHEDULE_MOST + 5],
+        ..Input::default()
+    }
+}
+
+/// A draw of another seed, of which the last entries are left out.
+fn drawn(lent: Lent, other: u32, left_out: usize) -> compare::harness::answer::Answer {
+    let mut whole = [0; SCHEDULE_MOST];
+    let length = reference::draw(lent.read[0], lent.numbers[0] + other, &mut whole);
+    let length = length.map(|length| length - left_out);
+    if let Ok(length) = length {
+        lent.bytes[..length].copy_from_slice(&whole[..length]);
+    }
+    length.map(|length| [length as u32]).into()
+}
+
+#[test]
+fn a_draw_that_ends_too_early() {
+    static WRONG: Call = Call {
+        engine: |lent| drawn(lent, 0, 1),
+        // Even where the reference makes the same mistake.
+        reference: |lent| drawn(lent, 0, 1),
+        ..draw::CALL
+    };
+    let said = said(&WRONG, &seeded(4));
+    assert!(said.contains("somebody is ready at the end"), "{said}");
+    assert!(said.contains("seed:             4"), "{said}");
+    assert!(difference(&draw::CALL, &seeded(4)).is_none());
+}
+
+#[test]
+fn a_draw_of_another_seed() {
+    static WRONG: Call = Call {
+        engine: |lent| drawn(lent, 2, 0),
+        reference: |lent| drawn(lent, 2, 0),
+        ..draw::CALL
+    };
+    let said = said(&WRONG, &seeded(0));
+    assert!(said.contains("drawn again: [0, 0, 1, 1]"), "{said}");
 }
 
 #[test]

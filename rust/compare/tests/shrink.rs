@@ -1,6 +1,6 @@
 //! Shrinking, with a mistake made up for each: what is left is what it takes.
 
-use compare::calls::{check, prefix, remainder, run};
+use compare::calls::{check, draw, prefix, remainder, run};
 use compare::harness::call::Call;
 use compare::harness::shrink::shrink;
 use compare::harness::slots::Input;
@@ -87,6 +87,19 @@ fn recordings_of_equal_lengths() {
     };
     let least = shrunk(&remainder::CALL, equal);
     assert_eq!(least.read, [vec![0; 2], vec![0; 2], vec![]]);
+}
+
+#[test]
+fn a_seed_and_the_room_to_draw() {
+    let drawn = |input: &Input| {
+        let (mut buffer, seed) = (input.bytes.clone(), input.numbers[0]);
+        let drawn = reference::draw(&input.read[0], seed, &mut buffer);
+        seed >= 3 && drawn.is_ok_and(|length| length >= 2)
+    };
+    let least = shrunk(&draw::CALL, drawn);
+    assert_eq!(least.read[0].len(), 8 + 2 * 8);
+    assert_eq!(least.numbers, [3, 0, 0, 0]);
+    assert_eq!(least.bytes, [0; 256]);
 }
 
 #[test]

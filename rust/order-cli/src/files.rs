@@ -1,6 +1,7 @@
 //! Files: read and written whole.
 
 use crate::answer::Failure;
+use crate::words::count;
 use std::fs;
 use std::os::unix::fs::MetadataExt;
 use std::path::Path;
@@ -19,6 +20,13 @@ pub fn write(path: &Path, bytes: &[u8]) -> Result<(), Failure> {
         let path = path.display();
         Failure::Trouble(format!("order: cannot write {path}: {error}\n"))
     })
+}
+
+/// Writes a file anew, and gives a line that says so of `what` is in it.
+pub fn write_told(what: &str, path: &Path, bytes: &[u8]) -> Result<String, Failure> {
+    write(path, bytes)?;
+    let written = count(bytes.len(), "byte", "bytes");
+    Ok(format!("{what}: {written} written to {}\n", path.display()))
 }
 
 /// Whether both paths lead to one file, whose bytes are lost where it is written: a terminal or another

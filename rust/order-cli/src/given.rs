@@ -7,10 +7,13 @@ use crate::schedule::Schedule;
 use order_engine::StepName;
 use std::ffi::{OsStr, OsString};
 use std::path::Path;
-use tables::text::{ACTION, ACTOR};
+use tables::text::{ACTION, ACTOR, Number};
 
 /// Makes the next argument a schedule in text.
 const TEXT: &str = "--text";
+
+/// The seed of a drawn schedule.
+const SEED: Number<u32> = Number::up_to("a seed", u32::MAX);
 
 /// The arguments of a sub-command: each operand that it declares once, and some of its options.
 #[derive(Clone, Debug)]
@@ -111,7 +114,7 @@ impl<'a> Given<'a> {
             (Sort::Source | Sort::Schedule, Word::Plain(path)) => {
                 Some((operand.name, Path::new(path)))
             }
-            (_, Word::Text(_)) | (Sort::Step | Sort::Target, _) => None,
+            (_, Word::Text(_)) | (Sort::Step | Sort::Seed | Sort::Target, _) => None,
         })
     }
 
@@ -122,7 +125,7 @@ impl<'a> Given<'a> {
             (Sort::Target, Word::Plain(path) | Word::Text(path)) => {
                 Some((operand.name.to_owned(), Path::new(path)))
             }
-            (Sort::Source | Sort::Schedule | Sort::Step, _) => None,
+            (Sort::Source | Sort::Schedule | Sort::Step | Sort::Seed, _) => None,
         });
         let options = self.options.iter();
         let chosen = options
@@ -165,6 +168,12 @@ impl<'a> Given<'a> {
     pub fn step(&self, operand: &Operand) -> Result<StepName, Failure> {
         let (Word::Plain(word) | Word::Text(word)) = self.word(operand.name);
         step(&word.to_string_lossy())
+    }
+
+    /// The seed that the operand is.
+    pub fn seed(&self, operand: &Operand) -> Result<u32, Failure> {
+        let (Word::Plain(word) | Word::Text(word)) = self.word(operand.name);
+        SEED.read(&word.to_string_lossy()).or_else(wrong)
     }
 
     /// Whether the option is given.

@@ -20,6 +20,8 @@ pub enum Sort {
     Schedule,
     /// A step's name.
     Step,
+    /// A seed.
+    Seed,
     /// A file that is written.
     Target,
 }
@@ -78,6 +80,14 @@ pub const fn plain(name: &'static str, what: &'static str) -> Choice {
         target: None,
         what,
         verdicts: None,
+    }
+}
+
+/// An option that a file follows, which is written.
+pub const fn to_file(name: &'static str, what: &'static str) -> Choice {
+    Choice {
+        target: Some("FILE"),
+        ..plain(name, what)
     }
 }
 

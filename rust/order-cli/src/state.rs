@@ -56,6 +56,22 @@ impl<'a> State<'a> {
         }
     }
 
+    /// How the actor stands, in a line.
+    pub fn stands(&self, actor: &Actor) -> String {
+        let number = actor.number;
+        let layout = &self.table.layout;
+        match self.status(actor) {
+            Status::Finished => format!("actor {number} is finished\n"),
+            Status::Ready(next) => format!("actor {number} is ready: {}\n", step(layout, next)),
+            Status::Waits(next, why) => {
+                format!("actor {number} waits: {}; {why}\n", step(layout, next))
+            }
+            Status::Over(next, why) => {
+                format!("actor {number} is over: {}; {why}\n", step(layout, next))
+            }
+        }
+    }
+
     /// All of it: how the whole stands, then actors, pairs that have met, mailboxes and mutexes. States
     /// that differ have other words.
     pub fn words(&self) -> String {

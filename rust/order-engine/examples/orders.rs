@@ -4,8 +4,8 @@
 //! cargo run --example orders
 //! ```
 
-use order_engine::{PAGE_ROOM, REPORT_ROOM, Reason, Refusal, StepName};
-use order_engine::{page, pair, prefix, ready, remainder, route, route_room, run, same};
+use order_engine::{PAGE_ROOM, REPORT_ROOM, Reason, Refusal, SCHEDULE_MOST, StepName};
+use order_engine::{draw, page, pair, prefix, ready, remainder, route, route_room, run, same};
 use tables::TABLE_A;
 
 fn main() -> Result<(), Refusal> {
@@ -45,6 +45,12 @@ fn main() -> Result<(), Refusal> {
     if prefix(&TABLE_A, &one, &other[..3])?.is_same() {
         let left = remainder(&one, &other[..3]);
         println!("one run as far as both go; left over: {left:?}");
+    }
+
+    // Orders that seeds determine.
+    for seed in [0, 2] {
+        let mut buffer = [0; SCHEDULE_MOST];
+        println!("seed {seed}: {:?}", draw(&TABLE_A, seed, &mut buffer)?);
     }
 
     // Orders that cannot happen.

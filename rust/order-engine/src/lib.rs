@@ -8,6 +8,7 @@
 //! - [`check()`]: whether a file is a task table;
 //! - [`run()`], [`ready()`] and [`page()`]: what a schedule leads to, as a [`Report`], who is ready then,
 //!   and the same as a text with a line for each actor;
+//! - [`draw()`]: a schedule that a seed determines, to its end;
 //! - [`pair()`], [`same()`] and [`route()`]: whether two steps are dependent, whether two schedules are
 //!   one and the same run, and the exchanges that lead from the one to the other;
 //! - [`prefix()`] and [`remainder()`]: whether two recordings are one run as far as both go, and what is
@@ -27,6 +28,7 @@
 //! ```
 
 pub mod check;
+pub mod draw;
 mod fields;
 pub mod page;
 pub mod pair;
@@ -41,6 +43,7 @@ pub mod same;
 mod step;
 
 pub use check::check;
+pub use draw::{SCHEDULE_MOST, draw};
 pub use fields::Fields;
 pub use page::{PAGE_ROOM, page};
 pub use pair::{PairVerdict, pair};

@@ -50,6 +50,7 @@ reasons! {
     20 PageRoom "the page buffer is too small";
     21 Over "the schedule's entry names an actor whose Add would pass 4294967295";
     22 SecondOver "the second schedule's entry names an actor whose Add would pass 4294967295";
+    23 ScheduleRoom "the schedule buffer is too small";
 }
 
 impl Reason {

@@ -1,6 +1,6 @@
 //! What `include/order.h` says by name, against this crate.
 
-use order_engine::{PAGE_ROOM, REPORT_ROOM, Reason};
+use order_engine::{PAGE_ROOM, REPORT_ROOM, Reason, SCHEDULE_MOST};
 use std::collections::BTreeMap;
 use tables::layout::{LONGEST, MOST, MOST_ACTIONS};
 
@@ -52,7 +52,7 @@ fn the_rest() {
         ("ORDER_REPORT_ROOM", REPORT_ROOM as u32),
         ("ORDER_PAGE_ROOM", PAGE_ROOM as u32),
         ("ORDER_TABLE_MOST", LONGEST as u32),
-        ("ORDER_SCHEDULE_MOST", u32::from(MOST) * MOST_ACTIONS as u32),
+        ("ORDER_SCHEDULE_MOST", SCHEDULE_MOST as u32),
         ("ORDER_FINISHED", 0),
         ("ORDER_STUCK", 1),
         ("ORDER_GOING", 2),
@@ -64,4 +64,5 @@ fn the_rest() {
         ("ORDER_SECOND", 2),
     ];
     assert_eq!(numbers, BTreeMap::from(wanted));
+    assert_eq!(SCHEDULE_MOST, usize::from(MOST) * MOST_ACTIONS);
 }

@@ -13,14 +13,15 @@
 //! - [`mod@follow`]: stepping along a schedule, refusals 11 to 16, 21 and 22;
 //! - [`status`], [`mod@ready`]: how an actor stands, and the ready answer;
 //! - [`report`], [`mod@run`], [`mod@page`]: the state report, the run and the page;
+//! - [`mod@make`], [`mod@draw`]: schedules that are made, refusal 23, and the one that a seed determines;
 //! - [`mod@pair`]: the pair verdict, by its four cases;
 //! - [`trace`], [`mod@same`], [`mod@route`]: an accepted schedule's steps, the same verdict by normal
 //!   forms, and the exchange route;
 //! - [`mod@prefix`], [`mod@remainder`]: the same verdict on what two recordings both have, and what is left
 //!   of the longer;
 //! - [`search`] and [`mod@replay`]: the same verdict by searching all chains, and a route replayed;
-//! - [`quick`] and [`footprint`]: the page, the same verdict, also of recordings, and the route made for
-//!   speed, to be measured.
+//! - [`quick`] and [`footprint`]: the page, the draw, the same verdict, also of recordings, and the route
+//!   made for speed, to be measured.
 //!
 //! The stepping engine knows a table by [`Table`] alone, which only [`check`] makes. Stepping needs no
 //! heap; a step costs the same however long the schedule and the queues are.
@@ -35,7 +36,8 @@
 //! the other and never moved, a mutex's queue is an array and a length, a test goes through its list.
 //! The route pulls each entry to its place in turn, as the proved one does. Decided by another way:
 //! the reader's forms (masks over an action's bytes), an Add's sum (made and found too large, not
-//! compared beforehand), the page (Rust's own formatting), dependence (the
+//! compared beforehand), the page (Rust's own formatting), a draw (numbers of 64 bits, so that nothing runs
+//! over before the remainder is taken, and a list of the ready actors), dependence (the
 //! four cases as the document has them, without a table of codes), the same verdict (normal forms; on
 //! short schedules also a search through all chains), and where the longer of two recordings is cut
 //! (entry by entry, without looking at a length). [`quick`], which is measured and not compared, works as
@@ -46,9 +48,11 @@
 pub mod action;
 pub mod actor;
 pub mod communication;
+pub mod draw;
 pub mod follow;
 pub mod footprint;
 pub mod mailbox;
+pub mod make;
 pub mod mutex;
 pub mod name;
 pub mod next;
@@ -72,7 +76,9 @@ pub mod table;
 pub mod trace;
 
 pub use action::{Action, List};
+pub use draw::draw;
 pub use follow::{Schedule, follow};
+pub use make::SCHEDULE_MOST;
 pub use name::Name;
 pub use next::Next;
 pub use page::{PAGE_ROOM, page};

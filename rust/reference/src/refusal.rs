@@ -64,6 +64,8 @@ reasons! {
     21 Over;
     /// An entry of the second schedule names an actor whose Add would pass 4,294,967,295.
     22 SecondOver;
+    /// The buffer for a schedule that is made has under 256 entries.
+    23 ScheduleRoom;
 }
 
 impl Reason {

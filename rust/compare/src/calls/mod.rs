@@ -1,7 +1,9 @@
 //! The calls, a module for each: how its two engines are compared, and what is measured of it. Those that
-//! step schedules share [`totals`], those that take recordings [`lengths`].
+//! step schedules share [`totals`], those that take recordings [`lengths`], those that want a fixed room
+//! lent [`room`].
 
 pub mod lengths;
+pub mod room;
 pub mod totals;
 
 use crate::harness::call::Call;
@@ -26,4 +28,4 @@ macro_rules! calls {
     };
 }
 
-calls! { check run ready page pair same prefix route; remainder }
+calls! { check run ready page draw pair same prefix route; remainder }

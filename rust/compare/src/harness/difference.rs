@@ -2,7 +2,7 @@
 
 use crate::harness::answer::Answer;
 use crate::harness::call::Call;
-use crate::harness::slots::{Buffer, Input, Number, Role};
+use crate::harness::slots::{Buffer, Input, Role};
 use std::fmt;
 
 /// An input, what the engines made of it, and what is wrong.
@@ -30,8 +30,7 @@ impl fmt::Display for Difference {
             line(&format!("{}:", read.0), words)?;
         }
         for (number, value) in slots.numbers.iter().zip(input.numbers) {
-            let (Number::Actor(label) | Number::Action(label)) = number;
-            line(&format!("{label}:"), value.to_string())?;
+            line(&format!("{}:", number.label()), value.to_string())?;
         }
         match slots.buffer {
             Buffer::None => {}

@@ -28,6 +28,16 @@ pub enum Number {
     Actor(&'static str),
     /// The number of an action of the actor whose number comes before it.
     Action(&'static str),
+    /// Any number of 32 bits.
+    Any(&'static str),
+}
+
+impl Number {
+    /// Its label.
+    pub fn label(&self) -> &'static str {
+        let (Self::Actor(label) | Self::Action(label) | Self::Any(label)) = self;
+        label
+    }
 }
 
 /// A buffer to write, of which the answer's first value is how much was written.

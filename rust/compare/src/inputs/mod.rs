@@ -10,6 +10,7 @@
 //!   not end together; [`deep`]: those with full queues;
 //!   [`digits`]: those whose cells hold numbers of every length; [`totals`]: those whose sums come to
 //!   the most that a cell holds;
+//! - [`sites`], [`seeds`]: tables of every family, and seeds, for the calls that make a schedule;
 //! - [`buffers`]: lent buffers.
 
 pub mod buffers;
@@ -24,6 +25,8 @@ pub mod mix;
 pub mod recordings;
 pub mod rng;
 pub mod sample;
+pub mod seeds;
+pub mod sites;
 pub mod steps;
 pub mod totals;
 pub mod twins;

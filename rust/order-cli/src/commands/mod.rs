@@ -2,6 +2,7 @@
 
 mod build;
 mod check;
+mod draw;
 mod page;
 mod pair;
 mod ready;
@@ -18,6 +19,7 @@ pub static ALL: &[&Command] = &[
     &run::COMMAND,
     &ready::COMMAND,
     &page::COMMAND,
+    &draw::COMMAND,
     &pair::COMMAND,
     &same::COMMAND,
     &route::COMMAND,

@@ -5,10 +5,7 @@ use crate::command::{Command, Example};
 use crate::given::Given;
 use crate::operand::{SCHEDULE, TABLE};
 use crate::refusals::{accepted, reached};
-use crate::state::{State, Status};
-use crate::words::step;
 use order_engine::REPORT_ROOM;
-use order_engine::report::Actor;
 
 /// The sub-command.
 pub static COMMAND: Command = Command {
@@ -40,22 +37,6 @@ fn run(given: &Given) -> Result<Answer, Failure> {
     let mut buffer = [0; REPORT_ROOM];
     let state = reached(&table, &schedule, &mut buffer)?;
     let mut text = format!("{}\n{}\n", state.ending(), state.mask());
-    text.extend(state.report.actors().map(|actor| stands(&state, &actor)));
+    text.extend(state.report.actors().map(|actor| state.stands(&actor)));
     Ok(Answer::of(text))
-}
-
-/// How an actor stands.
-fn stands(state: &State, actor: &Actor) -> String {
-    let number = actor.number;
-    let layout = &state.table.layout;
-    match state.status(actor) {
-        Status::Finished => format!("actor {number} is finished\n"),
-        Status::Ready(next) => format!("actor {number} is ready: {}\n", step(layout, next)),
-        Status::Waits(next, why) => {
-            format!("actor {number} waits: {}; {why}\n", step(layout, next))
-        }
-        Status::Over(next, why) => {
-            format!("actor {number} is over: {}; {why}\n", step(layout, next))
-        }
-    }
 }

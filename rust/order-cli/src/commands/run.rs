@@ -5,18 +5,15 @@ use crate::command::{Command, Example};
 use crate::files;
 use crate::given::Given;
 use crate::names::names;
-use crate::operand::{Choice, SCHEDULE, TABLE, plain};
+use crate::operand::{Choice, SCHEDULE, TABLE, plain, to_file};
 use crate::refusals::{accepted, reached};
 use crate::table::Table;
-use crate::words::{count, step};
+use crate::words::step;
 use order_engine::REPORT_ROOM;
 
 const STEPS: Choice = plain("--steps", "first say which step each entry runs");
 
-const REPORT: Choice = Choice {
-    target: Some("FILE"),
-    ..plain("--report", "also write the state report's bytes to FILE")
-};
+const REPORT: Choice = to_file("--report", "also write the state report's bytes to FILE");
 
 /// The sub-command.
 pub static COMMAND: Command = Command {
@@ -55,10 +52,7 @@ fn run(given: &Given) -> Result<Answer, Failure> {
     }
     text += &state.words();
     if let Some(path) = given.path_after(&REPORT) {
-        let bytes = state.report.bytes();
-        files::write(path, bytes)?;
-        let written = count(bytes.len(), "byte", "bytes");
-        text += &format!("report: {written} written to {}\n", path.display());
+        text += &files::write_told("report", path, state.report.bytes())?;
     }
     Ok(Answer::of(text))
 }

@@ -49,10 +49,10 @@ impl<T: TryFrom<u64> + Display> Number<T> {
     }
 }
 
-/// The number that `word` is, decimal or hexadecimal after `0x`; `None` where it is no number. One
+/// The number that `word` is, decimal or hexadecimal after `0x` or `0X`; `None` where it is no number. One
 /// that is too large for 64 bits is the largest of them.
 fn number(word: &str) -> Option<u64> {
-    let (digits, radix) = match word.strip_prefix("0x") {
+    let (digits, radix) = match word.strip_prefix("0x").or_else(|| word.strip_prefix("0X")) {
         Some(digits) => (digits, 16),
         None => (word, 10),
     };
@@ -71,15 +71,17 @@ mod tests {
 
     #[test]
     fn decimal_and_hexadecimal() {
-        let words = ["0", "007", "255", "0x95", "0xFf", "4294967296"];
-        let numbers = [0, 7, 255, 149, 255, 1 << 32];
+        let words = ["0", "007", "255", "0x95", "0xFf", "0Xa5", "4294967296"];
+        let numbers = [0, 7, 255, 149, 255, 165, 1 << 32];
         assert_eq!(words.map(number), numbers.map(Some));
         assert_eq!(number("99999999999999999999999"), Some(u64::MAX));
     }
 
     #[test]
     fn no_numbers() {
-        for word in ["", "0x", "x", "-1", "+1", "1_0", "95h", "0x9g", "1.0"] {
+        for word in [
+            "", "0x", "0X", "0x0x1", "x", "-1", "+1", "1_0", "95h", "0x9g", "1.0",
+        ] {
             assert_eq!(number(word), None, "{word}");
         }
     }

@@ -1,8 +1,8 @@
 //! The page: the answer and every byte lent.
 
-mod room;
 mod sights;
 
+use crate::calls::room::Room;
 use crate::calls::totals;
 use crate::harness::call::Call;
 use crate::harness::slots::{Buffer, Lent, SCHEDULE, Slots, TABLE};
@@ -36,7 +36,10 @@ pub const CALL: Call = Call {
     mistake: |asked| asked.unequal(),
     note: |tally, asked| {
         totals::note(tally, asked);
-        room::note(tally, asked);
+        ROOM.note(tally, asked, |input, buffer| {
+            let [table, schedule, _] = input.slices();
+            reference::page(table, schedule, buffer)
+        });
         if asked.accepted() {
             let length = asked.reference.values[0] as usize;
             sights::note(tally, &asked.theirs.bytes[..length]);
@@ -50,8 +53,14 @@ pub const CALL: Call = Call {
             .refused(&[Reason::PageRoom], 5_000)
             .places(&Reason::OF_FIRST, 2_000);
         let demands = totals::demands(demands, &[Reason::Over], 1_000);
-        sights::demands(room::demands(demands))
+        let then = [&Reason::OF_TABLE[..], &Reason::OF_FIRST];
+        sights::demands(ROOM.demands(demands, &then, 1_000))
     },
+};
+
+const ROOM: Room = Room {
+    least: PAGE_ROOM,
+    refusal: Reason::PageRoom,
 };
 
 /// Measures it on a load, three quarters of the way.

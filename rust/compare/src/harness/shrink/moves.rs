@@ -225,7 +225,7 @@ fn drop_step(input: &mut Input, slots: &Slots, actor: u8, index: usize) {
         match slot {
             Number::Actor(_) => of_actor = *number == u32::from(actor),
             Number::Action(_) if of_actor && *number as usize > index => *number -= 1,
-            Number::Action(_) => {}
+            Number::Action(_) | Number::Any(_) => {}
         }
     }
 }

@@ -1,6 +1,11 @@
-//! The page, the same verdict and the route made for speed, for the benchmark alone: digits written one
-//! by one, nothing on the heap, and dependence by footprints. They answer as [`crate::page()`],
-//! [`crate::same()`], [`crate::prefix()`] and [`crate::route()`] do.
+//! The page, the draw, the same verdict and the route made for speed, for the benchmark alone: digits
+//! written one by one, nothing on the heap, actors asked again only where something can have changed, and
+//! dependence by footprints. They answer as [`crate::page()`], [`crate::draw()`], [`crate::same()`],
+//! [`crate::prefix()`] and [`crate::route()`] do.
+
+mod draw;
+
+pub use draw::draw;
 
 use crate::follow::{Schedule, follow};
 use crate::footprint::Footprint;
