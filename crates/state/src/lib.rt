@@ -9,10 +9,10 @@ ghost use Rattle.model.specs.Views.{total, largest, runsOver};
 ghost use Rattle.model.specs.Step.{taken, over};
 ghost use Rattle.state.specs.State.{freshActor, stepAs};
 
-// An actor's record: the number of its next action, and its eight cells.
+// An actor's record: its eight cells, and the number of its next action.
 pub struct Actor {
-    pub position: usize,
     pub cells: [u32; 8],
+    pub position: usize,
 }
 
 // The local steps: each takes the record and hands it back.
