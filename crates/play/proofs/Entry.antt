@@ -22,7 +22,7 @@ use Rattle.play.proofs.Next.{entry-finished, entry-untaken, step-taken,
 -- what a halt before the end says of the schedule is all that is to be shown
 pub refusal : {table schedule comms log ends queues names′ : List ℕ} (r : Played) → (r .halt ≡ End → ⊥)
     → ((n : RefusalNumbers) → haltOf n (r .halt) ≡ checkSchedule n table schedule) → PlayedRight table schedule comms log ends queues names′ r
-refusal r before h = record { halted = h; ended = λ e. absurd (before e) }
+refusal r before h = record { halted = h; counted = λ e. absurd (before e); ended = λ e. absurd (before e) }
 
 module _ {table schedule comms log ends queues : List ℕ} {actors : List Actor} {i : ℕ}
     (P : Playing table schedule comms log ends queues actors i) (more : i < length schedule)

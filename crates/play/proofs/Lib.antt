@@ -1,6 +1,8 @@
--- A schedule, entry by entry.
+-- A schedule, entry by entry, lent or made.
 pub mod Prefix
 pub mod Playing
 pub mod Next
 pub mod Ends
 pub mod Entry
+pub mod Masks
+pub mod Making

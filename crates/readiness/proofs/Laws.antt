@@ -3,7 +3,8 @@
 use mathlib.Core.Path.{_≡_, refl, _∙_, ap, ap₂, sym}
 use mathlib.Core.Bool.{Bool, true, false, _&&_}
 use mathlib.Core.List.{List}
-use Prim.Native.Nat.{ℕ, suc, _+_, _-_, _*_, _^_, _<_, _≤_}
+use Prim.Native.Nat.{ℕ, suc, _+_, _-_, _*_, _%_, _^_, _<_, _≤_}
+use native.Mathlib.Nat.{zero-div}
 use native.Mathlib.Numerals.{add-one}
 use native.Mathlib.Omega.{arith}
 use borrow.Author.Tests.{lt-ltb, le-ltb}
@@ -16,9 +17,10 @@ use Rattle.table.specs.Format.{actorsOf, countOf}
 use Rattle.model.specs.Site.{Site}
 use Rattle.model.specs.Step.{NextStep, isTaken, stepOf, nextStep, ready}
 use Rattle.model.specs.Ready.{bit, maskOf, all, endingOf, readyMask, readyCount, readyAnswer}
+use Rattle.model.specs.ReadyMask.{bitOf}
 use Rattle.model.proofs.ReadyMask.{mask-small, mask-right}
 use Rattle.state.specs.State.{mailOf, queuesOf, freshActor, nextOf, seenFrom}
-use Rattle.readiness.specs.Parts.{siteWith, stepFrom, looksReady, everyoneFinished}
+use Rattle.readiness.specs.Parts.{siteWith, Known, stepFrom, looksReady, everyoneFinished}
 use Rattle.answers.specs.Answers.{endingAs, readinessOf}
 use Rattle.state.specs.declared.Actor.{Actor}
 use Rattle.answers.specs.declared.Ending.the-variants as case
@@ -48,6 +50,14 @@ step-looks table actors comms queues log ends log′ ends′ a =
     let r : Actor = getD actors a freshActor in
     step-parts table (siteWith actors comms queues log ends) (seenFrom r (mailOf comms log′ ends′) (queuesOf queues)) a (nextOf table a r) refl refl refl
 
+-- nor whether it is ready
+pub ready-alike : (table : List ℕ) (actors : List Actor) (comms queues log ends log′ ends′ : List ℕ) (a : ℕ)
+    → ready table (siteWith actors comms queues log ends) a ≡ ready table (siteWith actors comms queues log′ ends′) a
+unfolding ready
+ready-alike table actors comms queues log ends log′ ends′ a =
+    ap (λ (t : NextStep). ltb a (actorsOf table) && (ltb (getD actors a freshActor .position) (countOf table a) && isTaken t))
+    (step-looks table actors comms queues log ends log′ ends′ a ∙ sym (step-looks table actors comms queues log′ ends′ log′ ends′ a))
+
 pub ready-looks : (table : List ℕ) (actors : List Actor) (comms queues log ends : List ℕ) (a : ℕ) → a < actorsOf table
     → ready table (siteWith actors comms queues log ends) a ≡ looksReady table a (getD actors a freshActor) comms queues log ends
 unfolding ready
@@ -56,6 +66,12 @@ ready-looks table actors comms queues log ends a h =
     (ap (λ (t : NextStep). ltb (getD actors a freshActor .position) (countOf table a) && isTaken t) (step-looks table actors comms queues log ends log ends a))
 
 -- ---- the mask
+
+-- a mask of 0 has nobody
+pub nobody-known : (table : List ℕ) (a : ℕ) (actors : List Actor) (comms queues : List ℕ) → Known table 0 a actors comms queues
+nobody-known table a actors comms queues i h ne log ends =
+    let none : bitOf 0 i ≡ 0 = ap (λ (x : ℕ). x % 2) (zero-div (2 ^ i)) in
+    absurd (omega arith)
 
 -- one bit more, below those that stand
 pub mask-next : (f : ℕ → Bool) (n a : ℕ) → 0 < a → a ≤ n → maskOf f (n - (a - 1)) (a - 1) ≡ bit (f (a - 1)) + 2 * maskOf f (n - a) a

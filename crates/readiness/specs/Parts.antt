@@ -2,15 +2,17 @@
 -- Assumes nothing: these are definitions.
 use Prim.Native.Nat.{ℕ, _<_}
 use mathlib.Core.Path.{_≡_}
-use mathlib.Core.Bool.{Bool, not, _&&_}
+use mathlib.Core.Logic.{_≢_}
+use mathlib.Core.Bool.{Bool, true, not, _&&_}
 use mathlib.Core.List.{List}
 use lib.Dec.{ltb}
 use lib.ListN.{length, getD}
 use Rattle.table.specs.Format.{actorsOf, countOf}
 use Rattle.table.specs.Promise.{WellFormed}
 use Rattle.model.specs.Site.{Site}
-use Rattle.model.specs.Step.{NextStep, isTaken, stepOf}
+use Rattle.model.specs.Step.{NextStep, isTaken, stepOf, ready}
 use Rattle.model.specs.Ready as Model
+use Rattle.model.specs.ReadyMask.{bitOf}
 use Rattle.state.specs.State.{mailOf, queuesOf, siteOf, freshActor, CommsRoom, QueueRoom, EightCells, nextOf, seenFrom}
 use Rattle.state.specs.declared.Actor.{Actor}
 
@@ -32,6 +34,11 @@ pub record Answerable (table : List ℕ) (actors : List Actor) (comms queues : L
   pub eight : (a : ℕ) → EightCells (getD actors a freshActor)
   pub comms-room : CommsRoom comms
   pub queue-room : QueueRoom queues
+
+-- the actors of a mask are ready, but for actor a
+abbrev pub Known : List ℕ → (mask a : ℕ) → List Actor → (comms queues : List ℕ) → Type 0
+Known table mask a actors comms queues =
+    (i : ℕ) → bitOf mask i ≡ 1 → i ≢ a → (log ends : List ℕ) → ready table (siteWith actors comms queues log ends) i ≡ true
 
 -- what the next step of an actor with the record r is
 abbrev pub stepFrom : List ℕ → ℕ → Actor → (comms queues log ends : List ℕ) → NextStep

@@ -1,11 +1,14 @@
 // The ready answer of a state: the mask, how many actors are ready, and the ending.
 ghost use mathlib.Core.Path.{_≡_};
+ghost use mathlib.Core.Logic.{_≢_};
+ghost use mathlib.Core.Bool.{true};
 ghost use Prim.Native.Nat.{ℕ, _+_, _<_, _≤_};
 ghost use mathlib.Core.List.{List};
 ghost use lib.ListN.{length};
 ghost use Rattle.table.specs.Format.{actorsOf, countOf};
 ghost use Rattle.model.specs.Ready.{bit as asBit, readyMask, readyAnswer};
-ghost use Rattle.readiness.specs.Parts.{Answerable, Looked, stepFrom, looksReady, everyoneFinished, siteWith};
+ghost use Rattle.model.specs.ReadyMask.{bitOf};
+ghost use Rattle.readiness.specs.Parts.{Answerable, Known, Looked, stepFrom, looksReady, everyoneFinished, siteWith};
 ghost use Rattle.state.specs.State.{stepAs};
 ghost use Rattle.answers.specs.Answers.{readinessOf};
 use answers::Ending;
@@ -21,7 +24,7 @@ pub fn answer(table: &[u8], actors: [Actor; 8], comms: &[u64; 256], queues: &[u8
         ≡ readyAnswer (now (table .entry)) (siteWith actors (now (comms .entry)) (now (queues .entry)) log ends)) ⌝ }
 {
     let n = table::access::actors(table);
-    let mask = ready_mask(table, n, actors, comms, queues);
+    let mask = ready_mask(table, n, 0, 0, actors, comms, queues);
     let count = u32::count_ones(mask);
     if all_finished(table, n, actors) {
         return Readiness {
@@ -44,26 +47,45 @@ pub fn answer(table: &[u8], actors: [Actor; 8], comms: &[u64; 256], queues: &[u8
     }
 }
 
-// Which actors are ready: bit i of the mask is actor i's, from the last actor down.
+// Which actors are ready: bit i of the mask is actor i's, from the last actor down. Those that `known` has are known to be ready, but for actor `a`, and
+// are not looked at.
 pub fn ready_mask(
     table: &[u8],
     n: usize,
+    known: u32,
+    a: usize,
     actors: [Actor; 8],
     comms: &[u64; 256],
     queues: &[u8; 72],
 ) -> u32
-    requires { ⌜ Answerable (now table) actors (now comms) (now queues) × (n ≡ actorsOf (now table)) ⌝ }
+    requires { ⌜ Answerable (now table) actors (now comms) (now queues) × (n ≡ actorsOf (now table))
+        × Known (now table) known a actors (now comms) (now queues) ⌝ }
     ensures { λ m. ⌜ ((log ends : List ℕ) → m
         ≡ readyMask (now (table .entry)) (siteWith actors (now (comms .entry)) (now (queues .entry)) log ends)) ⌝ }
 {
     let mut m = 0;
-    let mut a = n;
-    while 0 < a {
-        a -= 1;
-        let r = actors[a];
-        m = bit(is_ready(table, a, r, comms, queues)) + 2 * m;
+    let mut i = n;
+    while 0 < i {
+        i -= 1;
+        if is_known(known, a, i) {
+            m = 1 + 2 * m;
+        } else {
+            let r = actors[i];
+            m = bit(is_ready(table, i, r, comms, queues)) + 2 * m;
+        }
     }
     m
+}
+
+// Whether a mask has actor i, where it is not actor a.
+fn is_known(known: u32, a: usize, i: usize) -> bool
+    requires { ⌜ i < 8 ⌝ }
+    ensures { λ b. ⌜ (b ≡ true → (bitOf known i ≡ 1) × (i ≢ a)) ⌝ }
+{
+    if i == a {
+        return false;
+    }
+    (known >> i) % 2 == 1
 }
 
 // Whether an actor is ready: not finished, and its next step is taken.

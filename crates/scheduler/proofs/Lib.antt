@@ -1,3 +1,3 @@
--- A schedule in the making.
-pub mod Masks
-pub mod Making
+-- The entries of a made schedule, from the names of its steps.
+pub mod Entries
+pub mod Made

@@ -1,16 +1,14 @@
 // Makers of schedules: one turn after another, by a policy, until nobody is ready.
 ghost use mathlib.Core.Path.{_≡_};
-ghost use Prim.Native.Nat.{_≤_};
-ghost use lib.ListN.{length};
+ghost use mathlib.Core.List.{_++_, map};
+ghost use Prim.Native.Nat.{ℕ, _/_, _≤_};
+ghost use lib.ListN.{length, take, drop};
 ghost use Rattle.model.specs.Scheduler.{makerOf};
 ghost use Rattle.answers.specs.Answers.{lengthResult};
 ghost use Rattle.policy.specs.Parts.{ruleOf, keptOf};
-ghost use Rattle.play.specs.Parts.{Zeros};
-ghost use Rattle.scheduler.specs.Parts.{Makeable, Made};
 use answers::LengthAnswer;
 use answers::Refusal;
 use policy::Policy;
-use state::Actor;
 use table::Reading;
 
 // Makes the schedule of a policy from a fresh site and writes its entries into the lent bytes.
@@ -29,48 +27,29 @@ pub fn schedule(table: &[u8], policy: Policy, entries: &mut [u8]) -> LengthAnswe
     let mut log = [0u8; 4096];
     let mut ends = [0usize; 32];
     let mut queues = [0u8; 72];
-    let n = make(
+    let mut names = [0u8; 256];
+    let played = play::make(
         table,
         policy,
         &mut comms,
         &mut log,
         &mut ends,
         &mut queues,
-        entries,
+        &mut names,
     );
+    let n = played.steps;
+    write(&names, n, entries);
     LengthAnswer::Length(n as u32)
 }
 
-// The turns, and how many there are. The arrays come fresh.
-fn make(
-    table: &[u8],
-    policy: Policy,
-    comms: &mut [u64; 256],
-    log: &mut [u8; 4096],
-    ends: &mut [usize; 32],
-    queues: &mut [u8; 72],
-    entries: &mut [u8],
-) -> usize
-    requires { ⌜ Makeable (now table) (now comms) (now log) (now ends) (now queues) (now entries) ⌝ }
-    ensures { λ n. ⌜ Made (now (table .entry)) policy (now (entries .entry)) (now (entries .exit)) n ⌝ }
+// The actors of n step names, in front of the lent bytes.
+fn write(names: &[u8; 256], n: usize, entries: &mut [u8])
+    requires { ⌜ (length (now names) ≡ 256) × (n ≤ 256) × (256 ≤ length (now entries)) ⌝ }
+    ensures { λ r. ⌜ now (entries .exit) ≡ map (λ (x : ℕ). x / 32) (take n (now (names .entry))) ++ drop n (now (entries .entry)) ⌝ }
 {
-    let n = table::access::actors(table);
-    let fresh = Actor::fresh();
-    let mut actors = [fresh; 8];
-    let mut policy = policy;
     let mut i = 0;
-    let mut mask = readiness::ready_mask(table, n, actors, comms, queues);
-    while 0 < mask {
-        let turn = policy.turn(mask);
-        let a = turn.actor;
-        let r = actors[a];
-        let s = step::step(table, a, r, comms, log, ends, queues);
-        let after = s.actor;
-        actors[a] = after;
-        entries[i] = a as u8;
-        policy = turn.policy;
+    while i < n {
+        entries[i] = names[i] / 32;
         i += 1;
-        mask = readiness::ready_mask(table, n, actors, comms, queues);
     }
-    i
 }

@@ -7,7 +7,7 @@ use borrow.Author.Tests.{eq-eqb, ne-eqb}
 use lib.Count.{ones}
 use Rattle.readiness.specs.Parts.{everyoneFinished}
 use Rattle.answers.specs.declared.Ending.the-variants as case
-use Rattle.readiness.proofs.Laws.{answer-right}
+use Rattle.readiness.proofs.Laws.{nobody-known, answer-right}
 use borrow.Author.Needs.{needs}
 use Rattle.readiness.proofs.answer.Statement.{statement}
 use Rattle.readiness.proofs.answer.Tie as tie
@@ -17,7 +17,8 @@ actors-requires c κs = search needs
 
 ready-mask-requires : tie.Need-ready-mask-requires
 ready-mask-requires c κs =
-    (c .before .before .pre, c .actors .ensures)
+    let x = c .before .before .args in
+    (c .before .before .pre, c .actors .ensures, nobody-known (x .table .now) 0 (x .actors) (x .comms .now) (x .queues .now))
 
 all-finished-requires : tie.Need-all-finished-requires
 all-finished-requires c κs =

@@ -1,15 +1,17 @@
 -- `scheduler::schedule` meets its contract: 23, then what the reader refuses; and only an accepted table's schedule is written. Assumes nothing.
-use mathlib.Core.Path.{refl, _∙_, ap, sym}
+use mathlib.Core.Path.{_≡_, refl, _∙_, ap, ap₂, sym}
+use mathlib.Core.List.{List, _++_}
+use Prim.Native.Nat.{ℕ}
 use native.Mathlib.Omega.{arith}
 use borrow.Author.Needs.{needs}
+use lib.ListN.{length, drop}
 use Rattle.table.specs.Answer.{outcome}
 use Rattle.table.specs.Read.{readOf}
+use Rattle.table.specs.Promise.{WellFormed}
 use Rattle.table.proofs.Readings.{refusing}
 use Rattle.model.proofs.Fills.{too-small, rest-refused, rest-accepted}
-use Rattle.model.proofs.Scheduled.{scheduled}
-use Rattle.policy.specs.Parts.{ruleOf, keptOf}
-use Rattle.policy.proofs.Choices.{policy-chooses}
-use Rattle.scheduler.specs.Parts.{scheduleBy}
+use Rattle.play.specs.Parts.{scheduleBy}
+use Rattle.scheduler.proofs.Made.{counted, few, held-long, entries-right}
 use Rattle.scheduler.proofs.schedule.Statement.{statement}
 use Rattle.scheduler.proofs.schedule.Tie as tie
 
@@ -31,31 +33,43 @@ returns-2 c =
     rest-refused 256 23 (readOf (x .table .now)) (scheduleBy (x .table .now) (x .policy)) (x .entries .now) (c .before .before .if1 .left)
     (sym (r .ensures .0) ∙ refusing (r .result) (c .match .keys2))
 
+-- the table is accepted
+valid : (c : tie.After-enum-told) → WellFormed (c .before .before .before .before .before .before .args .table .now)
+valid c = c .before .before .read .ensures .1 (c .enum-told .given .1)
+
 make-requires : tie.Need-make-requires
 make-requires c κs =
     record {
-      accepted = c .before .before .before .before .before .before .before .read .ensures .1 (c .before .before .before .before .before .enum-told .given .1);
+      accepted = valid (c .before .before .before .before .before);
       zeros = record { comms-fresh = refl; log-fresh = refl; ends-fresh = refl; queues-fresh = refl };
-      room = c .before .before .before .before .before .before .before .before .if1 .left;
+      names-long = refl;
     }
 
-cast-t20 : tie.Need-cast-t20
-cast-t20 c =
+write-requires : tie.Need-write-requires
+write-requires c κs =
     let x = c .before .before .before .before .before .before .before .before .before .before .before .before .before .before .args in
-    let ok = c .before .before .before .before .before .before .before .before .before .before .read .ensures .1 (c .before .before .before .before .before .before .before .before .enum-told .given .1) in
-    let fits = scheduled (ruleOf (x .policy)) (policy-chooses (x .policy)) (x .table .now) ok (keptOf (x .policy)) in
-    omega (arith, c .before .before .make .ensures .count, fits .most, fits .room)
+    let ok = valid (c .before .before .before .before .before .before .before .before) in
+    let P = c .before .before .make .ensures in
+    (held-long (x .table .now) (x .policy) ok P, few (x .table .now) (x .policy) ok P, c .before .before .before .before .before .before .before .before .before .before .before .if1 .left)
+
+cast-t25 : tie.Need-cast-t25
+cast-t25 c =
+    let x = c .before .before .before .before .before .before .before .before .before .before .before .before .before .before .before .before .before .args in
+    omega (arith, few (x .table .now) (x .policy) (valid (c .before .before .before .before .before .before .before .before .before .before .before)) (c .before .before .before .before .before .make .ensures))
 
 same-length : tie.Need-same-length
 same-length c = search needs
 
 returns-3 : tie.Need-returns-3
 returns-3 c =
-    let x = c .before .before .before .before .before .before .before .before .before .before .before .before .before .before .args in
-    let r = c .before .before .before .before .before .before .before .before .before .before .read in
-    let m = c .before .before .make .ensures in
-    rest-accepted 256 23 (readOf (x .table .now)) (scheduleBy (x .table .now) (x .policy)) (x .entries .now) _ _ _ (c .before .before .before .before .before .before .before .before .before .before .before .if1 .left)
-    (sym (r .ensures .0) ∙ ap outcome (c .before .before .before .before .before .before .before .before .enum-told .given .1)) refl (m .count) (m .lent)
+    let x = c .before .before .before .before .before .before .before .before .before .before .before .before .before .before .before .before .before .args in
+    let e = c .before .before .before .before .before .before .before .before .before .before .before in
+    let P = c .before .before .before .before .before .make .ensures in
+    let all = counted (x .table .now) (x .policy) (valid e) P in
+    rest-accepted 256 23 (readOf (x .table .now)) (scheduleBy (x .table .now) (x .policy)) (x .entries .now) _ _ _ (c .before .before .before .before .before .before .before .before .before .before .before .before .before .before .if1 .left)
+    (sym (e .before .before .read .ensures .0) ∙ ap outcome (e .enum-told .given .1)) refl all
+    (c .before .before .write .ensures
+    ∙ ap₂ (λ (l : List ℕ) (n : ℕ). l ++ drop n (x .entries .now)) (entries-right (x .table .now) (x .policy) (valid e) P) all)
 
 pub schedule-spec : {M : Type 1} → statement M
 schedule-spec =
@@ -66,6 +80,7 @@ schedule-spec =
     enum-told
     returns-2
     make-requires
-    cast-t20
+    write-requires
+    cast-t25
     same-length
     returns-3)

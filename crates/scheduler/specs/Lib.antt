@@ -1,2 +1,0 @@
--- What making a schedule takes and leaves.
-pub mod Parts
