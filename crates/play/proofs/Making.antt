@@ -8,29 +8,36 @@ use mathlib.Core.List.{List, [], _∷_, _++_}
 use Prim.Native.Nat.{ℕ, suc, _+_, _-_, _<_, _≤_}
 use native.Mathlib.Numerals.{add-one}
 use native.Mathlib.Omega.{arith}
+use borrow.Author.Tests.{ltb-true}
 use lib.ListN.{length, getD, take, drop, length-drop}
 use lib.Seq.{take-suc, drop-cons, length-take-le}
+use Rattle.table.specs.Format.{actorsOf}
+use Rattle.table.specs.Decode.{actionOf}
 use Rattle.trace.specs.Schedule.{final}
 use Rattle.trace.proofs.Run.{inv-final}
 use Rattle.model.specs.Site.{Site, initial}
+use Rattle.model.specs.Views.{silent, posts}
 use Rattle.model.specs.Step.{ready, step}
 use Rattle.model.specs.Ready.{bit, readyMask, readyCount}
 use Rattle.model.specs.ReadyMask.{bitOf}
 use Rattle.model.specs.Schedule.{machine}
 use Rattle.model.specs.Scheduler.{Rule, scheduleRoom, turnOf, entriesFrom, madeFrom}
-use Rattle.model.proofs.Invariant.{inv-initial}
+use Rattle.model.proofs.Invariant.{inv-initial, own-position}
+use Rattle.model.proofs.Checks.{ready-parts}
 use Rattle.model.proofs.Laws.{laws}
 use Rattle.model.proofs.Reached.{reached-end}
 use Rattle.model.proofs.ReadyMask.{mask-right}
 use Rattle.model.proofs.ReportBound.{actions-most}
 use Rattle.model.proofs.ReportBoundSteps.{schedule-taken}
 use Rattle.model.proofs.Scheduled.{Chooses, ready-left, turn-ready, entries-turn, entries-end}
+use Rattle.state.specs.State.{freshActor}
 use Rattle.state.specs.declared.Actor.{Actor}
 use Rattle.readiness.specs.Parts.{siteWith, Answerable, Known}
 use Rattle.readiness.proofs.Laws.{ready-alike}
 use Rattle.play.proofs.Prefix.{final-more}
 use Rattle.play.proofs.Playing.{reached, Playing}
-use Rattle.play.proofs.Masks.{mask-some, mask-none}
+use Rattle.play.proofs.Masks.{mask-some, mask-none, OwnOpen}
+use Rattle.play.proofs.Quiet.{quiet-ready}
 
 bit-one : (b : Bool) → bit b ≡ 1 → b ≡ true
 bit-one true h = refl
@@ -111,6 +118,24 @@ module _ (rule : Rule) (chooses : Chooses rule) (table whole : List ℕ) (kept :
         let inv = inv-final (laws table) initial (take i whole) (inv-initial table) (P .taken) in
         ready-alike table actors′ comms′ queues′ l e log′ ends′ j
         ∙ ap (λ (s : Site). ready table s j) (Q .site ∙ there) ∙ laws table .persist here j a inv ne was is-ready
+
+    -- after a step that posted nothing, the mask is right but perhaps for its own actor
+    pub open-next : {comms′ log′ ends′ queues′ : List ℕ} {actors′ : List Actor} → Playing table whole comms′ log′ ends′ queues′ actors′ (i + 1)
+        → posts (actionOf table a (getD actors′ a freshActor .position - 1)) ≡ silent → OwnOpen table (reached table whole (i + 1)) mask a
+    open-next {comms′} {log′} {ends′} {queues′} {actors′} Q quiet =
+        let one-on : getD actors′ a freshActor .position ≡ suc (here .actor a .position) =
+        ap (λ (s : Site). s .actor a .position) (Q .site ∙ there) ∙ own-position table here a in
+        let its-own : here .actor a .position ≡ getD actors′ a freshActor .position - 1 = omega arith in
+        record {
+          before = ready table here;
+          was-masked = masked;
+          had = is-ready;
+          others = λ j ne.
+              sym (quiet-ready table here a (ap (λ (k : ℕ). posts (actionOf table a k)) its-own ∙ quiet) j ne) ∙ ap (λ (s : Site). ready table s j) (sym there);
+        }
+
+    pub turn-in-table : a < actorsOf table
+    turn-in-table = ltb-true a (actorsOf table) (ready-parts table here a is-ready .0)
 
 -- what a look at every actor may rely on
 pub answerable : {table schedule comms log ends queues : List ℕ} {actors : List Actor} {i : ℕ} → Playing table schedule comms log ends queues actors i

@@ -1,8 +1,8 @@
 // The ready answer of a state: the mask, how many actors are ready, and the ending.
 ghost use mathlib.Core.Path.{_≡_};
 ghost use mathlib.Core.Logic.{_≢_};
-ghost use mathlib.Core.Bool.{true};
-ghost use Prim.Native.Nat.{ℕ, _+_, _<_, _≤_};
+ghost use mathlib.Core.Bool.{true, cond};
+ghost use Prim.Native.Nat.{ℕ, _+_, _-_, _^_, _<_, _≤_};
 ghost use mathlib.Core.List.{List};
 ghost use lib.ListN.{length};
 ghost use Rattle.table.specs.Format.{actorsOf, countOf};
@@ -75,6 +75,25 @@ pub fn ready_mask(
         }
     }
     m
+}
+
+// A mask that has actor `a`, with its bit as it is now.
+pub fn own_bit(
+    table: &[u8],
+    mask: u32,
+    a: usize,
+    r: Actor,
+    comms: &[u64; 256],
+    queues: &[u8; 72],
+) -> u32
+    requires { ⌜ Looked (now table) a r (now comms) (now queues) × (2 ^ a ≤ mask) ⌝ }
+    ensures { λ m. ⌜ ((log ends : List ℕ) → m
+        ≡ cond (looksReady (now (table .entry)) a r (now (comms .entry)) (now (queues .entry)) log ends) mask (mask - 2 ^ a)) ⌝ }
+{
+    if is_ready(table, a, r, comms, queues) {
+        return mask;
+    }
+    mask - (1 << a)
 }
 
 // Whether a mask has actor i, where it is not actor a.

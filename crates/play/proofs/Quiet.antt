@@ -1,0 +1,36 @@
+-- A step that posts nothing leaves the others as they are: who is ready changes for its own actor alone.
+-- Assumes nothing.
+use mathlib.Core.Path.{_≡_, refl, _∙_, ap}
+use mathlib.Core.Logic.{_≢_}
+use mathlib.Core.Bool.{_&&_}
+use mathlib.Core.List.{List}
+use Prim.Native.Nat.{ℕ}
+use lib.Dec.{ltb}
+use Rattle.table.specs.Format.{actorsOf, countOf}
+use Rattle.table.specs.Decode.{actionOf}
+use Rattle.model.specs.Site.{Site, Actor, Mail}
+use Rattle.model.specs.Views.{silent, posts}
+use Rattle.model.specs.Step.{NextStep, isTaken, stepOf, nextAction, ready, step}
+use Rattle.model.proofs.Invariant.{others-record}
+use Rattle.look.proofs.Sees.{step-parts}
+
+module _ (table : List ℕ) (s : Site) (a : ℕ) (quiet : posts (nextAction table s a) ≡ silent) where
+  same-mail : step table s a .mail ≡ s .mail
+  unfolding step
+  same-mail = rw quiet
+
+  same-queues : step table s a .queue ≡ s .queue
+  unfolding step
+  same-queues = rw quiet
+
+  pub quiet-ready : (j : ℕ) → j ≢ a → ready table (step table s a) j ≡ ready table s j
+  unfolding ready
+  quiet-ready j ne =
+      let own : step table s a .actor j ≡ s .actor j = others-record table s j a ne in
+      ap
+      (λ (r : Actor).
+      ltb j (actorsOf table) && (ltb (r .position) (countOf table j) && isTaken (stepOf table (step table s a) j (actionOf table j (r .position)))))
+      own
+      ∙ ap (λ (t : NextStep). ltb j (actorsOf table) && (ltb (s .actor j .position) (countOf table j) && isTaken t))
+      (step-parts table (step table s a) s j (actionOf table j (s .actor j .position)) (ap (λ (r : Actor). r .cells) own) (ap (λ (m : Mail). m .comm) same-mail)
+      same-queues)
