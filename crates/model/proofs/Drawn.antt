@@ -3,7 +3,7 @@
 use Prim.Native.Nat.{ℕ, zero, suc, _-_, _≤_, _<_}
 use native.Mathlib.Nat.{mod-lt}
 use native.Mathlib.Omega.{arith}
-use mathlib.Core.Path.{_≡_, refl, sym, _∙_, ap, subst}
+use mathlib.Core.Path.{_≡_, sym, _∙_, ap, subst}
 use mathlib.Core.Logic.{_⊎_, inl, inr}
 use mathlib.Core.Bool.{Bool, true, false}
 use mathlib.Core.List.{List, [], _∷_, _++_}
@@ -22,7 +22,7 @@ use Rattle.model.specs.Ready.{howMany, readyCount}
 use Rattle.model.specs.Calls.{gives, answer, Filled, lentAfter, fills}
 use Rattle.model.specs.Reached.{Reached}
 use Rattle.model.specs.Scheduler.{scheduleRoom, turnOf, entriesFrom, madeFrom}
-use Rattle.model.specs.Draw.{draw, rankBy, ranked, drawing, drawnFrom, drawOf}
+use Rattle.model.specs.Draw.{draw, rankBy, drawing, drawnFrom, drawOf}
 use Rattle.model.specs.Drawn.{rankIn, Follows, EveryDraw, TwoTechnicians}
 use Rattle.model.proofs.Checks.{gives-injective, ready-parts}
 use Rattle.model.proofs.Reached.{reached-initial, reached-step}

@@ -7,15 +7,15 @@ use mathlib.Core.Path.{_≡_, refl, sym, _∙_, ap}
 use mathlib.Core.Logic.{_⊎_, inl, inr}
 use mathlib.Core.Bool.{Bool, true, false, not}
 use mathlib.Core.List.{List, [], _∷_}
-use lib.Dec.{eqb, ltb}
+use lib.Dec.{eqb}
 use borrow.Author.Tests.{ltb-true, eqb-true, eqb-false, eq-eqb, ne-eqb}
 use Rattle.table.specs.Format.{actorsOf}
 use Rattle.table.specs.Promise.{WellFormed}
 use Rattle.trace.specs.Schedule.{accepted, final}
-use Rattle.trace.proofs.Bools.{which, is-false, both, contrary}
+use Rattle.trace.proofs.Bools.{which, is-false, both}
 use Rattle.model.specs.Site.{Site, initial}
 use Rattle.model.specs.Step.{unfinished, ready, step}
-use Rattle.model.specs.Ready.{bit, howMany, all, readyCount, finished, stuck, ending}
+use Rattle.model.specs.Ready.{howMany, all, readyCount, finished, stuck, ending}
 use Rattle.model.specs.Schedule.{machine}
 use Rattle.model.specs.Bound.{actionCount}
 use Rattle.model.specs.Reached.{Reached}

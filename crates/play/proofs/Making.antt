@@ -2,7 +2,6 @@
 -- that; who is known to be ready after it.
 -- Assumes nothing.
 use mathlib.Core.Path.{_≡_, refl, _∙_, ap, sym}
-use mathlib.Core.Logic.{_≢_}
 use mathlib.Core.Bool.{Bool, true, false}
 use mathlib.Core.List.{List, [], _∷_, _++_}
 use Prim.Native.Nat.{ℕ, suc, _+_, _-_, _<_, _≤_}
@@ -32,7 +31,7 @@ use Rattle.model.proofs.ReportBoundSteps.{schedule-taken}
 use Rattle.model.proofs.Scheduled.{Chooses, ready-left, turn-ready, entries-turn, entries-end}
 use Rattle.state.specs.State.{freshActor}
 use Rattle.state.specs.declared.Actor.{Actor}
-use Rattle.readiness.specs.Parts.{siteWith, Answerable, Known}
+use Rattle.readiness.specs.Parts.{Answerable, Known}
 use Rattle.readiness.proofs.Laws.{ready-alike}
 use Rattle.play.proofs.Prefix.{final-more}
 use Rattle.play.proofs.Playing.{reached, Playing}

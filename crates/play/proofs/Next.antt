@@ -3,7 +3,7 @@
 use mathlib.Core.Path.{_≡_, refl, _∙_, ap, ap₂, sym, subst}
 use mathlib.Core.Bool.{Bool, true, false, true≢false}
 use mathlib.Core.Logic.{_⊎_, inl, inr}
-use mathlib.Core.List.{List, [], _∷_, _++_, map}
+use mathlib.Core.List.{List, [], _∷_, _++_, map, map-append}
 use Prim.Native.Nat.{ℕ, suc, _+_, _*_, _<_, _≤_}
 use native.Mathlib.Nat.{zero-add}
 use native.Mathlib.Numerals.{add-one}
@@ -38,10 +38,6 @@ use Rattle.model.proofs.Checks.{ready-parts, parts-ready, checks-after}
 use Rattle.play.proofs.Prefix.{accepted-more, final-more, names-more}
 use Rattle.play.proofs.Playing.{reached, Playing, Named, records-set, join-most}
 use Rattle.look.proofs.Sees.{see-parts, step-parts}
-
-map-more : (f : ℕ → Name) (l : List ℕ) (x : ℕ) → map f (l ++ (x ∷ [])) ≡ map f l ++ (f x ∷ [])
-map-more f [] x = refl
-map-more f (y ∷ l) x = ap (λ (r : List Name). f y ∷ r) (map-more f l x)
 
 -- what follows a step that is not taken plays no part
 step-decides : (n : RefusalNumbers) (t : NextStep) (i : ℕ) (after : Outcome) → isTaken t ≡ false → checkStep n t i ≡ (checkStep n t i ⨾ after)
@@ -194,7 +190,7 @@ module _ {table schedule comms log ends queues : List ℕ} {actors : List Actor}
               record {
                 names-long = simp length-set (N .names-long);
                 names-right =
-                    ap (map nameOf) written ∙ map-more nameOf (take i names′) (32 * a + r .position)
+                    ap (map nameOf) written ∙ map-append nameOf (take i names′) ((32 * a + r .position) ∷ [])
                     ∙ ap₂ (λ (l : List Name) (y : Name). l ++ (y ∷ [])) (N .names-right) named
                     ∙ sym (ap (names (machine table) initial) one-more ∙ names-more (machine table) initial (take i schedule) a);
               }

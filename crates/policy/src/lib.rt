@@ -31,7 +31,8 @@ impl Policy {
         requires { ⌜ 0 < ones mask ⌝ }
         ensures { λ t. ⌜ TurnRight self mask t ⌝ }
     {
-        let x = draw(self.x);
+        let old = self.x;
+        let x = draw(old);
         let rank = x / 65536 % u32::count_ones(mask);
         Turn {
             actor: ranked(mask, rank),

@@ -48,8 +48,11 @@ actorAt c = c .before .loop .i - 1
 abbrev siteAt : tie.In-loop Inv-loop μ-loop → (log ends : List ℕ) → Site
 siteAt c log ends = let x = c .before .before .before .args in siteWith (x .t5) (x .comms .now) (x .queues .now) log ends
 
+some : (c : tie.In-loop Inv-loop μ-loop) → 0 < c .before .loop .i
+some c = omega (arith, c .loop-test .taken)
+
 in-table : (c : tie.In-loop Inv-loop μ-loop) → actorAt c < actorsOf (c .before .before .before .args .table .now)
-in-table c = omega (arith, c .before .before .before .pre .1, c .loop-test .taken, c .before .loop .inv .0)
+in-table c = omega (arith, c .before .before .before .pre .1, some c, c .before .loop .inv .0)
 
 in-actors : (c : tie.In-loop Inv-loop μ-loop) → actorAt c < 8
 in-actors c = omega (arith, in-table c, c .before .before .before .pre .0 .accepted .actors-most)
@@ -59,7 +62,7 @@ own-record : (c : tie.In-loop Inv-loop μ-loop) → let x = c .before .before .b
 own-record c = getD-within (c .before .before .before .args .t5) (actorAt c) _ _ (omega (arith, in-actors c, c .before .before .before .pre .0 .actors-long))
 
 small : (c : tie.In-loop Inv-loop μ-loop) → c .before .loop .m < 128
-small c = room-left (c .before .before .before .pre .0) (c .before .before .before .pre .1) (c .before .loop .inv) (c .loop-test .taken)
+small c = room-left (c .before .before .before .pre .0) (c .before .before .before .pre .1) (c .before .loop .inv) (some c)
 
 -- the actor's bit below those that stand
 one-more : (c : tie.In-loop Inv-loop μ-loop) (b : ℕ)
@@ -73,7 +76,7 @@ one-more c b right =
       omega (arith, l .inv .0),
       λ log ends.
           ap₂ (λ (y z : ℕ). y + 2 * z) (right log ends) (l .inv .1 log ends)
-          ∙ sym (mask-next (ready (x .table .now) (siteAt c log ends)) (x .n) (l .i) (c .loop-test .taken) (l .inv .0)),
+          ∙ sym (mask-next (ready (x .table .now) (siteAt c log ends)) (x .n) (l .i) (some c) (l .inv .0)),
     )
 
 -- ---- one that is known

@@ -1,10 +1,10 @@
 -- `scheduler::schedule` meets its contract: 23, then what the reader refuses; and only an accepted table's schedule is written. Assumes nothing.
-use mathlib.Core.Path.{_≡_, refl, _∙_, ap, ap₂, sym}
+use mathlib.Core.Path.{refl, _∙_, ap, ap₂, sym}
 use mathlib.Core.List.{List, _++_}
 use Prim.Native.Nat.{ℕ}
 use native.Mathlib.Omega.{arith}
 use borrow.Author.Needs.{needs}
-use lib.ListN.{length, drop}
+use lib.ListN.{drop}
 use Rattle.table.specs.Answer.{outcome}
 use Rattle.table.specs.Read.{readOf}
 use Rattle.table.specs.Promise.{WellFormed}
@@ -50,7 +50,7 @@ write-requires c κs =
     let x = c .before .before .before .before .before .before .before .before .before .before .before .before .before .before .args in
     let ok = valid (c .before .before .before .before .before .before .before .before) in
     let P = c .before .before .make .ensures in
-    (held-long (x .table .now) (x .policy) ok P, few (x .table .now) (x .policy) ok P, c .before .before .before .before .before .before .before .before .before .before .before .if1 .left)
+    (held-long (x .table .now) (x .policy) ok P, omega (arith, few (x .table .now) (x .policy) ok P), c .before .before .before .before .before .before .before .before .before .before .before .if1 .left)
 
 cast-t25 : tie.Need-cast-t25
 cast-t25 c =

@@ -3,7 +3,6 @@ use mathlib.Core.Path.{_≡_, refl, _∙_, ap}
 use mathlib.Core.List.{List}
 use Prim.Native.Nat.{ℕ, _-_, _≤_}
 use native.Mathlib.Omega.{arith}
-use borrow.Author.Needs.{needs}
 use lib.ListN.{length, getD, set}
 use Rattle.scheduler.proofs.Entries.{actorIn, written, written-long, written-next}
 use Rattle.scheduler.proofs.write.Statement.{statement}

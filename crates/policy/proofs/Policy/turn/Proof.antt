@@ -1,6 +1,6 @@
 -- `Policy::turn` meets its contract: the ones of a mask are as many as the actors that are ready. Assumes nothing.
-use mathlib.Core.Path.{_≡_, refl, _∙_, ap, sym}
-use Prim.Native.Nat.{ℕ, _/_, _%_}
+use mathlib.Core.Path.{_≡_, refl, _∙_, ap}
+use Prim.Native.Nat.{ℕ}
 use native.Mathlib.Nat.{mod-lt}
 use borrow.Author.Needs.{needs}
 use lib.Count.{ones}
@@ -17,7 +17,7 @@ rem-rank : tie.Need-rem-rank
 rem-rank c = search needs
 
 ranked-requires : tie.Need-ranked-requires
-ranked-requires c κs = mod-lt (c .draw .result / 65536) (c .before .pre)
+ranked-requires c κs = mod-lt _ (c .before .pre)
 
 returns : tie.Need-returns
 returns c =
