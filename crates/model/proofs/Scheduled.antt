@@ -20,7 +20,7 @@ use Rattle.model.specs.Schedule.{machine}
 use Rattle.model.specs.Bound.{actionCount}
 use Rattle.model.specs.Reached.{Reached}
 use Rattle.model.specs.Scheduler.{Rule, scheduleRoom, turnOf, entriesFrom, madeFrom}
-use Rattle.model.specs.Drawn.{Scheduled}
+use Rattle.model.specs.Scheduled.{Scheduled}
 use Rattle.model.proofs.Checks.{ready-parts}
 use Rattle.model.proofs.Reached.{reached-initial, reached-step}
 use Rattle.model.proofs.ReportBoundSteps.{taken, step-taken, schedule-most, entries-most}

@@ -1,9 +1,7 @@
--- What a made schedule is, and that a seed determines its load (document 02, W4). `proofs/Drawn.antt` proves it of every table that the reader
--- accepts.
+-- The load that a seed determines (document 02, W4): what is proved of it, in `proofs/Drawn.antt`, for every table that the reader accepts.
 -- Assumes nothing: these are definitions.
 use Prim.Native.Nat.{ℕ, _≤_}
 use mathlib.Core.Path.{_≡_}
-use mathlib.Core.Logic.{_⊎_}
 use mathlib.Core.Bool.{true, false}
 use mathlib.Core.List.{List, [], _∷_}
 use lib.ListN.{length, take}
@@ -11,25 +9,11 @@ use Rattle.table.specs.Outcome.{accepted}
 use Rattle.table.specs.Read.{readOf}
 use Rattle.model.specs.Site.{Site, initial}
 use Rattle.model.specs.Step.{ready, step}
-use Rattle.model.specs.Ready.{howMany, readyCount, finished, stuck, ending}
-use Rattle.model.specs.Schedule.{endState}
+use Rattle.model.specs.Ready.{howMany, readyCount}
 use Rattle.model.specs.Calls.{gives}
-use Rattle.model.specs.Bound.{actionCount}
-use Rattle.model.specs.Demand3.{Accepted}
-use Rattle.model.specs.Scheduler.{Rule, scheduleRoom, entriesFrom, madeFrom}
+use Rattle.model.specs.Scheduler.{scheduleRoom}
+use Rattle.model.specs.Scheduled.{Scheduled}
 use Rattle.model.specs.Draw.{draw, rankBy, drawing, drawnFrom, drawOf}
-
--- of a schedule made by any rule
-pub record Scheduled (rule : Rule) (table : List ℕ) (start : ℕ) : Type 0 where
-  -- it is accepted from a fresh site
-  pub taken : Accepted table (madeFrom rule table start)
-  -- its end is finished or stuck
-  pub ended : (ending table (endState table (madeFrom rule table start)) ≡ finished) ⊎ (ending table (endState table (madeFrom rule table start)) ≡ stuck)
-  -- it has at most as many entries as the table has actions, so at most 256
-  pub most : length (madeFrom rule table start) ≤ actionCount table
-  pub room : actionCount table ≤ scheduleRoom
-  -- the definition's bound does not matter: with every other that the actions do not pass the entries are these
-  pub any-bound : (bound : ℕ) → actionCount table ≤ bound → entriesFrom rule table bound initial start ≡ madeFrom rule table start
 
 module _ (table : List ℕ) where
   -- how many ready actors come before an actor

@@ -30,6 +30,7 @@ pub mod Determined
 pub mod PageShape
 pub mod Over
 pub mod RecordingLaws
+pub mod Scheduled
 pub mod Drawn
 pub mod Claims
 pub mod Cases

@@ -1,5 +1,5 @@
--- Makers of schedules (document 02, W4; W14 will choose in another way): one turn after another, by a rule that says whose it is, until nobody is
--- ready. The entries go into a lent buffer.
+-- Makers of schedules: one turn after another, by a rule that says whose it is, until nobody is ready. The entries go into a lent buffer. Document 02's
+-- W4 gives the first rule, and W14 another.
 -- Assumes nothing: these are definitions.
 use Prim.Native.Nat.{ℕ, zero, suc}
 use mathlib.Core.Bool.{Bool, cond}

@@ -1,0 +1,24 @@
+-- What a made schedule is, by whatever rule it is made: `proofs/Scheduled.antt` proves it of every rule that chooses an actor who is ready.
+-- Assumes nothing: these are definitions.
+use Prim.Native.Nat.{ℕ, _≤_}
+use mathlib.Core.Path.{_≡_}
+use mathlib.Core.Logic.{_⊎_}
+use mathlib.Core.List.{List}
+use lib.ListN.{length}
+use Rattle.model.specs.Site.{initial}
+use Rattle.model.specs.Ready.{finished, stuck, ending}
+use Rattle.model.specs.Schedule.{endState}
+use Rattle.model.specs.Bound.{actionCount}
+use Rattle.model.specs.Demand3.{Accepted}
+use Rattle.model.specs.Scheduler.{Rule, scheduleRoom, entriesFrom, madeFrom}
+
+pub record Scheduled (rule : Rule) (table : List ℕ) (start : ℕ) : Type 0 where
+  -- it is accepted from a fresh site
+  pub taken : Accepted table (madeFrom rule table start)
+  -- its end is finished or stuck
+  pub ended : (ending table (endState table (madeFrom rule table start)) ≡ finished) ⊎ (ending table (endState table (madeFrom rule table start)) ≡ stuck)
+  -- it has at most as many entries as the table has actions, so at most 256
+  pub most : length (madeFrom rule table start) ≤ actionCount table
+  pub room : actionCount table ≤ scheduleRoom
+  -- the bound in the definition does not matter: every bound from the number of actions on gives these entries
+  pub any-bound : (bound : ℕ) → actionCount table ≤ bound → entriesFrom rule table bound initial start ≡ madeFrom rule table start
