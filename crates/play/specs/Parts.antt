@@ -1,8 +1,8 @@
 -- What running a schedule takes and leaves.
 -- Assumes nothing: these are definitions.
-use Prim.Native.Nat.{ℕ, _<_, _≤_}
+use Prim.Native.Nat.{ℕ, _≤_}
 use mathlib.Core.Path.{_≡_}
-use mathlib.Core.Bool.{Bool, true, false, cond}
+use mathlib.Core.Bool.{Bool, cond}
 use mathlib.Core.List.{List, map}
 use lib.ListN.{length, getD, take, replicate}
 use Rattle.table.specs.Outcome.{Outcome, accepted}
@@ -15,11 +15,8 @@ use Rattle.names.specs.InByte.{nameOf}
 use Rattle.state.specs.declared.Actor.{Actor}
 use Rattle.state.specs.State.{siteOf, MailRoom, QueueRoom, freshActor, EightCells}
 use Rattle.answers.specs.Answers.{stopOf}
-use Rattle.policy.specs.Parts.{ruleOf, keptOf, TurnRight}
+use Rattle.policy.specs.Parts.{ruleOf, keptOf}
 use Rattle.policy.specs.declared.Policy.{Policy}
-use Rattle.policy.specs.declared.Turn.{Turn}
-use Rattle.play.specs.declared.Due.{Due}
-use Rattle.play.specs.declared.Due.the-variants as due
 use Rattle.play.specs.declared.Halt.{Halt}
 use Rattle.play.specs.declared.Halt.the-variants.{End, At}
 use Rattle.play.specs.declared.Played.{Played}
@@ -43,12 +40,6 @@ scheduleBy table policy = madeFrom (ruleOf policy) table (keptOf policy)
 
 abbrev pub playedBy : (table schedule : List ℕ) → (made : Bool) → Policy → List ℕ
 playedBy table schedule made policy = cond made (scheduleBy table policy) schedule
-
--- what is due at entry i: of a lent schedule its end, or the entry's actor; of a made one its end where the mask has nobody, or the policy's turn
-abbrev pub DueRight : (schedule : List ℕ) (i : ℕ) (made : Bool) (policy : Policy) (mask : ℕ) → Due → Type 0
-DueRight schedule i made policy mask due.End = (made ≡ false → length schedule ≤ i) × (made ≡ true → mask ≡ 0)
-DueRight schedule i made policy mask (due.Turn t) =
-    (made ≡ false → (i < length schedule) × (t .actor ≡ getD schedule i 0)) × (made ≡ true → (0 < mask) × TurnRight policy mask t)
 
 -- document 01's outcome for where a schedule halts, by the numbers of its refusals
 abbrev pub haltOf : RefusalNumbers → Halt → Outcome

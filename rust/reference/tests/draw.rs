@@ -1,4 +1,4 @@
-//! The draw against document 02, request W4. The upper halves of x, worked out with a calculator, stand
+//! The draw against document 02, request W4. The upper halves of x, worked out apart, stand
 //! beside the schedules that they give.
 
 mod common;

@@ -31,7 +31,8 @@ use Rattle.policy.specs.Parts.{ruleOf, keptOf, TurnRight}
 use Rattle.policy.specs.declared.Policy.{Policy}
 use Rattle.policy.specs.declared.Turn.{Turn}
 use Rattle.policy.proofs.Choices.{policy-chooses}
-use Rattle.play.specs.Parts.{scheduleBy, playedBy, DueRight}
+use Rattle.lead.specs.Parts.{DueRight}
+use Rattle.play.specs.Parts.{scheduleBy, playedBy}
 use Rattle.play.specs.declared.Halt.the-variants.{End, At}
 use Rattle.play.proofs.Playing.{reached, Playing, Named}
 use Rattle.play.proofs.Next.{entries-so-far, entry-absent}

@@ -1,11 +1,11 @@
--- `play::was_quiet` meets its contract. Assumes nothing.
+-- `lead::was_quiet` meets its contract. Assumes nothing.
 use mathlib.Core.Path.{_≡_, _∙_, ap, sym}
 use mathlib.Core.Bool.{false, true, false≢true}
 use native.Mathlib.Omega.{arith}
 use borrow.Author.Needs.{needs}
 use Rattle.model.specs.Views.{posts}
-use Rattle.play.proofs.was_quiet.Statement.{statement}
-use Rattle.play.proofs.was_quiet.Tie as tie
+use Rattle.lead.proofs.was_quiet.Statement.{statement}
+use Rattle.lead.proofs.was_quiet.Tie as tie
 
 -- nothing is said where the answer is no
 no : {A : Type 0} → false ≡ true → A

@@ -1,9 +1,9 @@
--- `play::whose_turn` meets its contract. Assumes nothing.
+-- `lead::whose_turn` meets its contract. Assumes nothing.
 use native.Mathlib.Omega.{arith}
 use borrow.Author.Needs.{needs}
 use Rattle.trace.proofs.Bools.{contrary}
-use Rattle.play.proofs.whose_turn.Statement.{statement}
-use Rattle.play.proofs.whose_turn.Tie as tie
+use Rattle.lead.proofs.whose_turn.Statement.{statement}
+use Rattle.lead.proofs.whose_turn.Tie as tie
 
 returns : tie.Need-returns
 returns c = (λ lent. contrary (c .before .if1 .taken) lent, λ made. c .if2 .taken)

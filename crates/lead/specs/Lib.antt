@@ -1,0 +1,2 @@
+-- What is due.
+pub mod Parts
