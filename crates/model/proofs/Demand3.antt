@@ -30,7 +30,7 @@ use Rattle.model.specs.Calls.{gives, runOf, readyChecks, readyOf, inTabl
 use Rattle.model.specs.Demand3.{Accepted, stepName, EndsAlike, StillReady, EveryTable}
 use Rattle.model.proofs.Laws.{laws}
 use Rattle.model.proofs.Invariant.{inv-initial}
-use Rattle.model.proofs.ReadyMask.{mask-right}
+use Rattle.model.proofs.ReadyMask.{bit-one, mask-right}
 use Rattle.table.proofs.Checks.{then-right}
 use Rattle.model.proofs.Checks.{then-both, demand-met, answer-given, given-accepted, gives-injective, checks-taken, taken-checks, steps-in-table}
 
@@ -39,10 +39,6 @@ pub site-theorems : (table : List ℕ) → Theorems (machine table) initial
 site-theorems table = theorems (laws table) initial (inv-initial table)
 
 -- ---- verdicts as tests
-
-bit-one : (b : Bool) → bit b ≡ 1 → b ≡ true
-bit-one true h = refl
-bit-one false h = absurd (omega arith)
 
 judged-independent : (b : Bool) → cond b dependent independent ≡ independent → b ≡ false
 judged-independent true h = let z : _≡_ {A = ℕ} 0 1 = cc in absurd (omega arith)

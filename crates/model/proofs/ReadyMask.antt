@@ -31,6 +31,10 @@ bit-small : (b : Bool) → bit b < 2
 bit-small true = lit< tt
 bit-small false = lit< tt
 
+pub bit-one : (b : Bool) → bit b ≡ 1 → b ≡ true
+bit-one true h = refl
+bit-one false h = absurd (omega arith)
+
 module _ (b : Bool) (m : ℕ) where
   pub rest-half : (bit b + 2 * m) / 2 ≡ m
   rest-half = add-mul-div-left (bit b) m (lit< tt) ∙ ap (λ (x : ℕ). x + m) (bit-half b) ∙ omega arith

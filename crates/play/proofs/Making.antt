@@ -2,7 +2,7 @@
 -- that; who is known to be ready after it.
 -- Assumes nothing.
 use mathlib.Core.Path.{_≡_, refl, _∙_, ap, sym}
-use mathlib.Core.Bool.{Bool, true, false}
+use mathlib.Core.Bool.{true}
 use mathlib.Core.List.{List, [], _∷_, _++_}
 use Prim.Native.Nat.{ℕ, suc, _+_, _-_, _<_, _≤_}
 use native.Mathlib.Numerals.{add-one}
@@ -17,7 +17,7 @@ use Rattle.trace.proofs.Run.{inv-final}
 use Rattle.model.specs.Site.{Site, initial}
 use Rattle.model.specs.Views.{silent, posts}
 use Rattle.model.specs.Step.{ready, step}
-use Rattle.model.specs.Ready.{bit, readyMask, readyCount}
+use Rattle.model.specs.Ready.{readyMask, readyCount}
 use Rattle.model.specs.ReadyMask.{bitOf}
 use Rattle.model.specs.Schedule.{machine}
 use Rattle.model.specs.Scheduler.{Rule, scheduleRoom, turnOf, entriesFrom, madeFrom}
@@ -25,7 +25,7 @@ use Rattle.model.proofs.Invariant.{inv-initial, own-position}
 use Rattle.model.proofs.Checks.{ready-parts}
 use Rattle.model.proofs.Laws.{laws}
 use Rattle.model.proofs.Reached.{reached-end}
-use Rattle.model.proofs.ReadyMask.{mask-right}
+use Rattle.model.proofs.ReadyMask.{bit-one, mask-right}
 use Rattle.model.proofs.ReportBound.{actions-most}
 use Rattle.model.proofs.ReportBoundSteps.{schedule-taken}
 use Rattle.model.proofs.Scheduled.{Chooses, ready-left, turn-ready, entries-turn, entries-end}
@@ -37,10 +37,6 @@ use Rattle.play.proofs.Prefix.{final-more}
 use Rattle.play.proofs.Playing.{reached, Playing}
 use Rattle.play.proofs.Masks.{mask-some, mask-none, OwnOpen}
 use Rattle.play.proofs.Quiet.{quiet-ready}
-
-bit-one : (b : Bool) → bit b ≡ 1 → b ≡ true
-bit-one true h = refl
-bit-one false h = absurd (omega arith)
 
 -- what is left of a schedule is what the rule makes of the state after i turns, by what it keeps then
 abbrev pub Left : Rule → (table whole : List ℕ) (i kept : ℕ) → Type 0

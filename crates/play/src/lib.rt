@@ -33,6 +33,7 @@ pub fn play(
     ensures { λ r. ⌜ PlayedRight (now (table .entry)) (now (schedule .entry)) (now (comms .exit)) (now (log .exit)) (now (ends .exit))
         (now (queues .exit)) (now (names .exit)) r ⌝ }
 {
+    // of a lent schedule it plays no part
     let policy = Policy::drawn(0);
     turns(
         table,
