@@ -16,10 +16,10 @@ use Rattle.model.specs.Site.{name}
 use Rattle.model.specs.Views.{posts, looks}
 use Rattle.model.specs.Step.{actionAt}
 use Rattle.model.specs.Pair.{competes, answers, anyOf, meets, depends}
-use Rattle.model.specs.FourCases.{DependentCase}
+use Rattle.model.specs.PairCases.{DependentCase}
 use Rattle.model.proofs.Upd.{test-symmetric}
 use Rattle.model.proofs.Ports.{number-test}
-use Rattle.model.proofs.FourCases.{four-cases}
+use Rattle.model.proofs.PairCases.{pair-cases}
 use Rattle.actions.specs.Fields.{kindOf, targetOf, listOf, sending, receiving, postBy, lookBy}
 use Rattle.actions.proofs.ByKind.{EachKind, at-kind, posts-by, looks-by, kind-under}
 use Rattle.dependence.specs.Codes.{isOn, codeOf, comparisonOf, comparison, compared, byCode}
@@ -122,7 +122,7 @@ by-code table x y =
 
 -- so it is exactly the four cases, besides two steps of one actor
 pub by-code-cases : (table : List ℕ) (x y : Name) → (byCode table x y ≡ true) ↔ DependentCase table x y
-by-code-cases table x y = (λ t. four-cases table x y .0 (by-code table x y ∙ t), λ d. sym (by-code table x y) ∙ four-cases table x y .1 d)
+by-code-cases table x y = (λ t. pair-cases table x y .0 (by-code table x y ∙ t), λ d. sym (by-code table x y) ∙ pair-cases table x y .1 d)
 
 -- ---- the verdict from what was looked up, of two steps of different actors
 

@@ -51,7 +51,8 @@ module _ (b : List ℕ) (first k : ℕ) where
   by-kind (suc (suc (suc (suc (suc (suc (suc (suc zero)))))))) e p q z v = one-kind b first k 8 e (lit≤ tt) ∙ one-field _ p q z v
   by-kind (suc (suc (suc (suc (suc (suc (suc (suc (suc zero))))))))) e p q z v = absurd (omega arith)
   by-kind (suc (suc (suc (suc (suc (suc (suc (suc (suc (suc zero)))))))))) e p q z v = absurd (omega arith)
-  by-kind (suc (suc (suc (suc (suc (suc (suc (suc (suc (suc (suc kind))))))))))) e p q z v = absurd (omega arith)
+  by-kind (suc (suc (suc (suc (suc (suc (suc (suc (suc (suc (suc zero))))))))))) e p q z v = one-kind b first k 11 e (lit≤ tt) ∙ one-field _ p q z v
+  by-kind (suc (suc (suc (suc (suc (suc (suc (suc (suc (suc (suc (suc kind)))))))))))) e p q z v = absurd (omega arith)
 
   pub plainly : Plain b (placeOf first k) (limitsOf b) → checkOf b first k ≡ accepted
   plainly right = by-kind (kindAt b at) refl (right .p-under) (right .q-under) (right .z-none) (right .value-under)

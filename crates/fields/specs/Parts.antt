@@ -23,7 +23,7 @@ Room b at = (at + 8 ≤ length b) × (length b ≤ tableMost)
 abbrev pub twoFieldsOf : List ℕ → ℕ → ℕ → Outcome
 twoFieldsOf b at limit = demand (ltb (pAt b at) limit) 7 at ⨾ demand (ltb (qAt b at) 8) 7 at ⨾ restClear b at nothing
 
--- p below a limit, all else unused: Lock, Unlock
+-- p below a limit, all else unused: Lock, Unlock, Note
 abbrev pub loneOf : List ℕ → ℕ → ℕ → Outcome
 loneOf b at limit = demand (ltb (pAt b at) limit) 7 at ⨾ demand (eqb (qAt b at) 0) 9 at ⨾ restClear b at nothing
 
@@ -46,14 +46,14 @@ listOf b at right =
 
 -- by kind: what p lies under
 abbrev pub limitsOf : List ℕ → List ℕ
-limitsOf b = 8 ∷ 8 ∷ 8 ∷ mailboxesOf b ∷ mailboxesOf b ∷ 8 ∷ 8 ∷ mutexesOf b ∷ mutexesOf b ∷ 8 ∷ 8 ∷ []
+limitsOf b = 8 ∷ 8 ∷ 8 ∷ mailboxesOf b ∷ mailboxesOf b ∷ 8 ∷ 8 ∷ mutexesOf b ∷ mutexesOf b ∷ 8 ∷ 8 ∷ 8 ∷ []
 
 -- by kind: what q lies under where the kind has no list, and what b4 to b7 as one number lie under; 0 for a list
 abbrev pub qUnder : List ℕ
-qUnder = 1 ∷ 8 ∷ 8 ∷ 8 ∷ 8 ∷ 0 ∷ 0 ∷ 1 ∷ 1 ∷ 0 ∷ 0 ∷ []
+qUnder = 1 ∷ 8 ∷ 8 ∷ 8 ∷ 8 ∷ 0 ∷ 0 ∷ 1 ∷ 1 ∷ 0 ∷ 0 ∷ 1 ∷ []
 
 abbrev pub valueUnder : List ℕ
-valueUnder = 4294967296 ∷ 1 ∷ 1 ∷ 1 ∷ 1 ∷ 0 ∷ 0 ∷ 1 ∷ 1 ∷ 0 ∷ 0 ∷ []
+valueUnder = 4294967296 ∷ 1 ∷ 1 ∷ 1 ∷ 1 ∷ 0 ∷ 0 ∷ 1 ∷ 1 ∷ 0 ∷ 0 ∷ 1 ∷ []
 
 -- an action without a list that has nothing wrong
 pub record Plain (b : List ℕ) (at : ℕ) (limits : List ℕ) : Type 0 where

@@ -19,9 +19,9 @@ pub fn check(
     k: usize,
     mailboxes: usize,
     mutexes: usize,
-    limits: &[u8; 11],
-    seconds: &[u8; 11],
-    values: &[usize; 11],
+    limits: &[u8; 12],
+    seconds: &[u8; 12],
+    values: &[usize; 12],
 ) -> Reading
     requires { ⌜ Room (now t) (placeOf first k) × (mailboxes ≡ mailboxesOf (now t)) × (mutexes ≡ mutexesOf (now t))
         × (now limits ≡ limitsOf (now t)) × (now seconds ≡ qUnder) × (now values ≡ valueUnder) ⌝ }
@@ -35,12 +35,12 @@ pub fn check(
 
 // An action without a list that has nothing wrong. By kind, `limits` is what p lies under, `seconds` what q does, and `values` what b4 to b7 as
 // one number do; nothing lies under 0, so that a list is looked at by itself.
-fn plain(t: &[u8], at: usize, limits: &[u8; 11], seconds: &[u8; 11], values: &[usize; 11]) -> bool
-    requires { ⌜ Room (now t) at × (length (now limits) ≡ 11) × (now seconds ≡ qUnder) × (now values ≡ valueUnder) ⌝ }
+fn plain(t: &[u8], at: usize, limits: &[u8; 12], seconds: &[u8; 12], values: &[usize; 12]) -> bool
+    requires { ⌜ Room (now t) at × (length (now limits) ≡ 12) × (now seconds ≡ qUnder) × (now values ≡ valueUnder) ⌝ }
     ensures { λ r. ⌜ (r ≡ true → Plain (now (t .entry)) at (now (limits .entry))) ⌝ }
 {
     let kind = bytes::wide(t[at]);
-    if 10 < kind {
+    if 11 < kind {
         return false;
     }
     if limits[kind] <= t[at + 1] {
@@ -77,6 +77,7 @@ fn exact(t: &[u8], first: usize, k: usize, mailboxes: usize, mutexes: usize) -> 
         5 | 6 => any(t, first, k),
         7 | 8 => lone(t, at, mutexes),
         9 | 10 => mutex_any(t, at, mutexes),
+        11 => lone(t, at, 8),
         _ => Reading::Kind(at as u32),
     }
 }
@@ -119,7 +120,7 @@ fn pair(t: &[u8], at: usize, limit: usize) -> Reading
     Reading::Unused(at as u32)
 }
 
-// Lock, Unlock: p below a limit.
+// Lock, Unlock, Note: p below a limit.
 fn lone(t: &[u8], at: usize, limit: usize) -> Reading
     requires { ⌜ Room (now t) at ⌝ }
     ensures { λ r. ⌜ outcome r ≡ loneOf (now (t .entry)) at limit ⌝ }

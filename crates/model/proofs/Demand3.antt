@@ -19,7 +19,7 @@ use Rattle.trace.specs.Theorems.{Theorems, KeepsRun}
 use Rattle.trace.proofs.Bools.{both, is-false}
 use Rattle.trace.proofs.Run.{names-length}
 use Rattle.trace.proofs.Theorems.{theorems}
-use Rattle.model.specs.Site.{name, initial}
+use Rattle.model.specs.Site.{Site, name, initial}
 use Rattle.model.specs.Step.{actionAt, nextName, ready}
 use Rattle.model.specs.Ready.{bit, ReadyAnswer, readyMask, readyAnswer}
 use Rattle.model.specs.ReadyMask.{bitOf}
@@ -71,7 +71,7 @@ module _ (table : List ℕ) (read : readOf table ≡ accepted) where
   ends-alike p q hp hq e =
       let checks : checkSchedule firstNumbers table q ≡ checkSchedule firstNumbers table p =
       taken-checks table firstNumbers initial 0 q hq ∙ sym (taken-checks table firstNumbers initial 0 p hp) in
-      record { taken = hq; ends = e; reports = ap (report table) e; runs = λ buffer. rw (checks, e); readies = rw (checks, e) }
+      record { taken = hq; ends = e; journals = ap (λ (s : Site). s .journal) e; reports = ap (report table) e; runs = λ buffer. rw (checks, e); readies = rw (checks, e) }
 
   along-chains : (chain p q : List ℕ) → Accepted table p → Chain (machine table) initial chain p q
       → ((n : ℕ) → EndsAlike table p (replay (take n chain) p)) × EndsAlike table p q

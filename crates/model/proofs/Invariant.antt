@@ -14,7 +14,7 @@ use Rattle.trace.specs.Order.{mem}
 use Rattle.trace.proofs.Bools.{which}
 use Rattle.trace.proofs.Names.{mem-head, mem-tail, mem-cases}
 use Rattle.model.specs.Site.{Actor, Port, opposite, eqPort, Mail, Site, initial}
-use Rattle.model.specs.Views.{Post, silent, mails, joins, leaves, posts}
+use Rattle.model.specs.Views.{Post, silent, mails, joins, leaves, notes, posts}
 use Rattle.model.specs.Mail.{meetWith, mailing}
 use Rattle.model.specs.Step.{actionAt, nextName, nextAction, step}
 use Rattle.model.proofs.Upd.{upd-same, upd-other}
@@ -90,6 +90,7 @@ mailing-members (mails P) R x z v m h = go (meeting-members (m .waiting (opposit
     go (inr q) = inr q
 mailing-members (joins n) R x z v m h = inr h
 mailing-members (leaves n) R x z v m h = inr h
+mailing-members notes R x z v m h = inr h
 
 module _ (table : List ℕ) (s : Site) (a : ℕ) where
   step-members : (R : Port) (z : Name) → mem z (step table s a .mail .waiting R) ≡ true

@@ -4,7 +4,7 @@ use Prim.Native.Nat.{ℕ, _<_}
 use native.Mathlib.Omega.{arith}
 use mathlib.Core.Path.{_≡_, refl, sym, _∙_, ap}
 use mathlib.Core.Logic.{_⊎_, inl, inr, _≢_}
-use mathlib.Core.Bool.{Bool, true, false, not, _||_}
+use mathlib.Core.Bool.{Bool, true, false, true≢false, not, _||_}
 use mathlib.Core.List.{List}
 use lib.Dec.{eqb, ltb}
 use Rattle.table.specs.declared.Action.{Action}
@@ -13,17 +13,18 @@ use Rattle.trace.specs.Machine.{Name}
 use Rattle.trace.specs.Laws.{Laws}
 use Rattle.trace.specs.Order.{mem}
 use Rattle.trace.proofs.Bools.{contrary, both, and-left, and-right, or-left, or-right, or-cases, or-false-left, or-false-right}
-use Rattle.model.specs.Site.{upd, Actor, Port, opposite, eqPort, Mail, Site, name}
-use Rattle.model.specs.Views.{Post, silent, mails, joins, leaves, posts, looks, waits, sent, runsOver}
+use Rattle.model.specs.Site.{upd, Actor, Port, opposite, eqPort, Mail, Entry, Site, name}
+use Rattle.model.specs.Views.{Post, silent, mails, joins, leaves, notes, posts, looks, waits, sent, runsOver}
 use Rattle.model.specs.Mutex.{queueing}
 use Rattle.model.specs.Mail.{mailing}
+use Rattle.model.specs.Journal.{noting}
 use Rattle.model.specs.Local.{see, isSeen, local}
 use Rattle.model.specs.Step.{actionAt, nextName, nextAction, unfinished, passes, isTaken, nextStep, ready, step}
 use Rattle.model.specs.Pair.{competes, sees, depends}
 use Rattle.model.specs.Schedule.{machine}
 use Rattle.model.proofs.Upd.{upd-comm}
 use Rattle.model.proofs.Ports.{number-test, port-test, opposite-injective}
-use Rattle.model.proofs.FourCases.{depends-symmetric, depends-own}
+use Rattle.model.proofs.PairCases.{depends-symmetric, depends-own}
 use Rattle.model.proofs.Queues.{queueing-commutes}
 use Rattle.model.proofs.Pairing.{Apart, meet-commutes}
 use Rattle.model.proofs.Invariant.{Inv, own-position, others-record, inv-step}
@@ -40,7 +41,7 @@ module _ (table : List ℕ) (a b : ℕ) (ne : a ≢ b) (s : Site) where
     where
       go : (not (waits x) ≡ true) ⊎ (isSeen (see s a (looks x)) ≡ true) → passes table (step table s b) a x ≡ true
       go (inl q) = or-left (not (waits x)) _ q
-      go (inr q) = or-right (not (waits x)) _ (still-sees a b ne s _ (s .actor b .position) _ (posts (nextAction table s b)) (looks x) q)
+      go (inr q) = or-right (not (waits x)) _ (still-sees a b ne s _ (s .actor b .position) _ _ (posts (nextAction table s b)) (looks x) q)
 
   pub ready-lasts : ready table s a ≡ true → ready table (step table s b) a ≡ true
   unfolding ready
@@ -77,6 +78,7 @@ module _ (table : List ℕ) (s : Site) where
         actor = upd eqb (t .actor) a (recordAfter a);
         mail = mailing (posts (nextAction table s a)) (nextName table s a) (sentBy a) (t .mail);
         queue = queueing (posts (nextAction table s a)) a (t .queue);
+        journal = noting (posts (nextAction table s a)) (nextName table s a) (sentBy a) (t .journal);
       }
   unfolding step
   step-in t a e v = rw (e, v)
@@ -92,8 +94,22 @@ mailing-commutes (mails P) (mails Q) x y v w m h f =
     meet-commutes P Q x y v w m ne (f P Q refl refl ne)
 mailing-commutes (mails P) (joins n) x y v w m h f = refl
 mailing-commutes (mails P) (leaves n) x y v w m h f = refl
+mailing-commutes (mails P) notes x y v w m h f = refl
 mailing-commutes (joins n) q x y v w m h f = refl
 mailing-commutes (leaves n) q x y v w m h f = refl
+mailing-commutes notes q x y v w m h f = refl
+
+noting-commutes : (p q : Post) (x y : Name) (v w : ℕ) (j : List Entry) → competes p q ≡ false
+    → noting q y w (noting p x v j) ≡ noting p x v (noting q y w j)
+noting-commutes silent q x y v w j h = refl
+noting-commutes (mails P) q x y v w j h = refl
+noting-commutes (joins m) q x y v w j h = refl
+noting-commutes (leaves m) q x y v w j h = refl
+noting-commutes notes silent x y v w j h = refl
+noting-commutes notes (mails P) x y v w j h = refl
+noting-commutes notes (joins m) x y v w j h = refl
+noting-commutes notes (leaves m) x y v w j h = refl
+noting-commutes notes notes x y v w j h = absurd (true≢false h)
 
 module _ (table : List ℕ) (a b : ℕ) (ne : a ≢ b) (s : Site) (i : Inv table s) where
   -- a pending step is not the next one of any actor: it lies below
@@ -125,7 +141,7 @@ module _ (table : List ℕ) (a b : ℕ) (ne : a ≢ b) (s : Site) (i : Inv table
       → see (step table s a) b (looks (nextAction table s b)) ≡ see s b (looks (nextAction table s b))
   unfolding step
   look-same h =
-      sees-same b a (λ e. ne (sym e)) s _ (s .actor a .position) _ table i (posts (nextAction table s a)) (looks (nextAction table s b)) h
+      sees-same b a (λ e. ne (sym e)) s _ (s .actor a .position) _ _ table i (posts (nextAction table s a)) (looks (nextAction table s b)) h
 
 -- both orders of two independent steps end in one state
 module _ (table : List ℕ) (a b : ℕ) (ne : a ≢ b) (s : Site) (i : Inv table s) where
@@ -146,6 +162,11 @@ module _ (table : List ℕ) (a b : ℕ) (ne : a ≢ b) (s : Site) (i : Inv table
             (λ P Q p q pq. names-apart table a b ne s i P Q pq)
             j;
         queue = queueing-commutes (posts (nextAction table s a)) (posts (nextAction table s b)) a b (s .queue) ne c j;
+        journal =
+            noting-commutes (posts (nextAction table s a)) (posts (nextAction table s b)) (nextName table s a) (nextName table s b) (sentBy table s a) (sentBy table s b)
+            (s .journal)
+            c
+            j;
       })
       ∙ sym (step-in table s (step table s b) a (others-record table s a b ne) va)
 

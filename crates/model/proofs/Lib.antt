@@ -1,12 +1,13 @@
 -- What is proved of the definitions. The results:
 -- `Laws`: the site of every table keeps the trace theory's laws;
--- `FourCases`: the pair verdict is document 01's four cases;
+-- `PairCases`: the pair verdict is document 01's four cases and document 02's fifth;
 -- `ReadyMask`: the mask's bits and ones;
 -- `Demand3`: demand 3, of every table that the reader accepts;
 -- `Refusals`: a refused run or page changes nothing lent;
 -- `Reached`: what holds of every state that an accepted schedule reaches, from any start that has it;
--- `ReportBound`: no report passes the table's bound, nor 2,912 bytes;
+-- `ReportBound`: no report passes the table's bound, nor 4,450 bytes;
 -- `Determined`: two states are equal when their reports are;
+-- `Journaled`: the journal is the Notes that were run, in their order, each once;
 -- `PageShape`: every line of a page has 101 characters, and no page passes 816 bytes;
 -- `SamePages`: exchanged schedules have the same page;
 -- `Over`: a step whose total would run over never becomes ready, and exchanged schedules meet it at the same entry;
@@ -15,7 +16,8 @@
 -- `Beginnings`: a listing goes by the beginnings of its files alone.
 pub mod Upd
 pub mod Ports
-pub mod FourCases
+pub mod ByKind
+pub mod PairCases
 pub mod Queues
 pub mod Pairing
 pub mod Invariant
@@ -34,6 +36,7 @@ pub mod ReportBoundMail
 pub mod ReachedQueued
 pub mod ReachedPaired
 pub mod ReachedMail
+pub mod ReachedNoted
 pub mod Reached
 pub mod ReportBoundLengths
 pub mod ReportBoundSteps
@@ -45,6 +48,7 @@ pub mod ReportSplit
 pub mod SameReports
 pub mod SameStates
 pub mod Determined
+pub mod Journaled
 pub mod Decimal
 pub mod Columns
 pub mod PageShape
@@ -66,5 +70,6 @@ pub mod PageExamples
 pub mod OverExamples
 pub mod RecordingExamples
 pub mod DrawExamples
+pub mod JournalExamples
 pub mod Listings
 pub mod Forecourt

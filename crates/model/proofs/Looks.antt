@@ -11,8 +11,8 @@ use Rattle.trace.specs.Machine.{Name}
 use Rattle.trace.specs.Order.{eqName, mem}
 use Rattle.trace.specs.Order.{has}
 use Rattle.trace.proofs.Bools.{which, contrary, is-false, or-left, or-right, or-cases, or-false-left, or-false-right}
-use Rattle.model.specs.Site.{Actor, Port, opposite, pending, Mail, Site, name}
-use Rattle.model.specs.Views.{Post, silent, mails, joins, leaves, Look, blind, communications, mutexes}
+use Rattle.model.specs.Site.{Actor, Port, opposite, pending, Mail, Entry, Site, name}
+use Rattle.model.specs.Views.{Post, silent, mails, joins, leaves, notes, Look, blind, communications, mutexes}
 use Rattle.model.specs.Mutex.{owns, queueing}
 use Rattle.model.specs.Mail.{isDone, carried, meetWith, mailing}
 use Rattle.model.specs.Local.{first, see, isSeen}
@@ -20,7 +20,7 @@ use Rattle.model.specs.Pair.{answers, anyOf, meets, postAt}
 use Rattle.model.proofs.Upd.{not-equal, upd-other}
 use Rattle.model.proofs.Ports.{name-test}
 use Rattle.model.proofs.Queues.{owns-join, owns-leave}
-use Rattle.model.proofs.FourCases.{answers-opposite}
+use Rattle.model.proofs.PairCases.{answers-opposite}
 use Rattle.model.proofs.Invariant.{Inv}
 
 -- ---- the first place of a list
@@ -73,9 +73,9 @@ meeting-done (t ∷ l) Q y z w m ne h = go (which (eqName z t))
 
 -- ---- what actor a sees after a step of actor b, named y, which posts p with value w
 
-module _ (a b : ℕ) (ne : a ≢ b) (s : Site) (R : ℕ → Actor) (k : ℕ) (w : ℕ) where
+module _ (a b : ℕ) (ne : a ≢ b) (s : Site) (R : ℕ → Actor) (k : ℕ) (w : ℕ) (J : List Entry) where
   abbrev pub after : Post → Site
-  after p = record { actor = R; mail = mailing p (name b k) w (s .mail); queue = queueing p b (s .queue) }
+  after p = record { actor = R; mail = mailing p (name b k) w (s .mail); queue = queueing p b (s .queue); journal = J }
 
   apart : (j : ℕ) → name a j ≢ name b k
   apart j e = ne (ap (λ (x : Name). x .actor) e)
@@ -87,6 +87,7 @@ module _ (a b : ℕ) (ne : a ≢ b) (s : Site) (R : ℕ → Actor) (k : ℕ) (w 
       first-lasts _ _ _ _ 1 l (λ j e. meeting-done (s .mail .waiting (opposite Q)) Q (name b k) (name a j) w (s .mail) (apart j) e) h
   still-sees (joins n) (communications l) h = h
   still-sees (leaves n) (communications l) h = h
+  still-sees notes (communications l) h = h
   still-sees silent (mutexes l) h = h
   still-sees (mails Q) (mutexes l) h = h
   still-sees (joins n) (mutexes l) h = first-lasts _ _ _ _ 1 l (λ m e. keeps m e (which (eqb m n))) h
@@ -99,6 +100,7 @@ module _ (a b : ℕ) (ne : a ≢ b) (s : Site) (R : ℕ → Actor) (k : ℕ) (w 
       keeps : (m : ℕ) → owns (s .queue m) a ≡ true → (eqb m n ≡ true) ⊎ (eqb m n ≡ false) → owns (queueing (leaves n) b (s .queue) m) a ≡ true
       keeps m e (inl t) = rw t (owns-leave a b ne (s .queue n) (rw (eqb-true m n t) at e))
       keeps m e (inr f) = rw f e
+  still-sees notes (mutexes l) h = h
 
   pub sees-same : (table : List ℕ) → Inv table s → (p : Post) (look : Look) → meets (postAt table a) look p ≡ false
       → see (after p) a look ≡ see s a look
@@ -118,6 +120,7 @@ module _ (a b : ℕ) (ne : a ≢ b) (s : Site) (R : ℕ → Actor) (k : ℕ) (w 
       keeps j m = meeting-keeps (s .mail .waiting (opposite Q)) Q (name b k) (name a j) w (s .mail) (apart j) (elsewhere j m)
   sees-same table i (joins n) (communications l) h = refl
   sees-same table i (leaves n) (communications l) h = refl
+  sees-same table i notes (communications l) h = refl
   sees-same table i silent (mutexes l) h = refl
   sees-same table i (mails Q) (mutexes l) h = refl
   sees-same table i (joins n) (mutexes l) h = first-agrees _ _ _ _ 1 l (λ m q. (keeps m (which (eqb m n)), refl))
@@ -130,3 +133,4 @@ module _ (a b : ℕ) (ne : a ≢ b) (s : Site) (R : ℕ → Actor) (k : ℕ) (w 
       keeps : (m : ℕ) → has l m ≡ true → (eqb m n ≡ true) ⊎ (eqb m n ≡ false) → owns (queueing (leaves n) b (s .queue) m) a ≡ owns (s .queue m) a
       keeps m q (inl t) = contrary (rw (eqb-true m n t) at q) h
       keeps m q (inr f) = rw f
+  sees-same table i notes (mutexes l) h = refl

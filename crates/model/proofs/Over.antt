@@ -12,7 +12,7 @@ use lib.Dec.{ltb}
 use lib.ListN.{length, getD, set, take}
 use lib.Seq.{getD-set-same, getD-set-other}
 use Rattle.table.specs.declared.Action.{Action}
-use Rattle.table.specs.declared.Action.the-variants.{Set, Add, Lesser, Send, Receive, TestAny, WaitAny, Lock, Unlock, MutexTest, MutexWait}
+use Rattle.table.specs.declared.Action.the-variants.{Set, Add, Lesser, Send, Receive, TestAny, WaitAny, Lock, Unlock, MutexTest, MutexWait, Note}
 use Rattle.table.specs.Outcome.{Outcome, accepted, refused, _⨾_, numberOf}
 use Rattle.table.specs.Format.{actorsOf, countOf}
 use Rattle.table.specs.Read.{readOf}
@@ -61,6 +61,7 @@ total-add (Lock mutex) cells h = absurd (omega arith)
 total-add (Unlock mutex) cells h = absurd (omega arith)
 total-add (MutexTest result list) cells h = absurd (omega arith)
 total-add (MutexWait result list) cells h = absurd (omega arith)
+total-add (Note cell) cells h = absurd (omega arith)
 
 -- the cells after an Add
 after-add : (own : ℕ → Action) (x : Action) (found : Seen) (cells : List ℕ) (cell other : ℕ) → x ≡ Add cell other

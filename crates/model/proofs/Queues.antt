@@ -10,7 +10,7 @@ use borrow.Author.Tests.{eqb-true, eqb-false, ne-eqb}
 use Rattle.trace.specs.Order.{has}
 use Rattle.trace.proofs.Bools.{which}
 use Rattle.model.specs.Site.{upd}
-use Rattle.model.specs.Views.{Post, silent, mails, joins, leaves}
+use Rattle.model.specs.Views.{Post, silent, mails, joins, leaves, notes}
 use Rattle.model.specs.Mutex.{owns, join, leave, queueing}
 use Rattle.model.specs.Pair.{competes}
 use Rattle.model.proofs.Upd.{upd-same, upd-other, upd-comm, upd-upd}
@@ -106,8 +106,11 @@ queueing-commutes (joins m) silent a b f ne h = refl
 queueing-commutes (joins m) (mails q) a b f ne h = refl
 queueing-commutes (joins m) (joins n) a b f ne h = two-joins a b m n f (λ e. eqb-false n m h (sym e))
 queueing-commutes (joins m) (leaves n) a b f ne h = two-queues f m n (λ q. join q a) (λ q. leave q b) (join-leave a b ne)
+queueing-commutes (joins m) notes a b f ne h = refl
 queueing-commutes (leaves m) silent a b f ne h = refl
 queueing-commutes (leaves m) (mails q) a b f ne h = refl
 queueing-commutes (leaves m) (joins n) a b f ne h =
     two-queues f m n (λ q. leave q a) (λ q. join q b) (λ q. sym (join-leave b a (λ e. ne (sym e)) q))
 queueing-commutes (leaves m) (leaves n) a b f ne h = two-queues f m n (λ q. leave q a) (λ q. leave q b) (leave-leave a b ne)
+queueing-commutes (leaves m) notes a b f ne h = refl
+queueing-commutes notes y a b f ne h = refl

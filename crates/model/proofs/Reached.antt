@@ -13,20 +13,21 @@ use Rattle.table.specs.Format.{actorsOf, countOf}
 use Rattle.table.specs.Promise.{isPost}
 use Rattle.trace.specs.Machine.{Name}
 use Rattle.trace.specs.Schedule.{accepted, final}
-use Rattle.trace.specs.Order.{eqName, has}
+use Rattle.trace.specs.Order.{eqName, mem, Distinct, has}
 use Rattle.trace.proofs.Bools.{which, contrary, is-false}
 use Rattle.trace.proofs.Names.{eqName-refl, eqName-true}
 use Rattle.trace.proofs.Run.{first-ready, rest-accepted}
 use Rattle.model.specs.Site.{Actor, Comm, unposted, pending, done, Site, initial}
-use Rattle.model.specs.Views.{joins, posts}
+use Rattle.model.specs.Views.{joins, notes, posts}
 use Rattle.model.specs.Step.{actionAt, nextName, nextAction, ready, step}
 use Rattle.model.specs.Schedule.{machine, endState}
-use Rattle.model.specs.Reached.{isPosted, MailRight, Locked, Reached}
+use Rattle.model.specs.Reached.{isPosted, MailRight, Locked, notedIn, Reached}
 use Rattle.model.proofs.Checks.{ready-parts}
 use Rattle.model.proofs.Invariant.{Inv, own-position, others-record, position-rises}
 use Rattle.model.proofs.ReportBoundQueues.{once-queueing, queueing-members}
 use Rattle.model.proofs.ReachedQueued.{pending-posted}
 use Rattle.model.proofs.ReachedMail.{receive-sends-zero, mailing-right, own-posted, others-posted}
+use Rattle.model.proofs.ReachedNoted.{noting-members, noting-keeps, noting-adds, noting-once}
 
 pub reached-initial : (table : List ℕ) → Reached table initial
 unfolding initial
@@ -47,6 +48,8 @@ reached-initial table =
           };
       queued-once = λ m. tt;
       queued-locked = λ m a h. absurd (false≢true h);
+      noted-below = λ x. (λ h. absurd (false≢true h), λ h. absurd (omega (arith, h .1)));
+      noted-once = tt;
     }
 
 -- ---- what follows of a state that has it
@@ -134,6 +137,30 @@ module _ (table : List ℕ) (s : Site) (r : Reached table s) where
         go (inl old) = let k = r .queued-locked m b old in (k .0, omega (arith, position-rises table s b a, k .1), k .2)
         go (inr new) = rw (new .0) (s .actor a .position, omega (arith, own-position table s a), new .1)
 
+    next-unnoted : mem me (notedIn (s .journal)) ≡ false
+    next-unnoted = is-false _ (λ h. let low = r .noted-below me .0 h .1 in omega arith)
+
+    step-noted : (x : Name)
+        → (mem x (notedIn (step table s a .journal)) ≡ true)
+        ↔ ((posts (actionAt table x) ≡ notes) × (x .position < step table s a .actor (x .actor) .position))
+    unfolding step
+    step-noted x = (λ h. listed (noting-members (posts (nextAction table s a)) me x _ (s .journal) h), λ h. holds h (which (eqName x me)))
+      where
+        listed : (mem x (notedIn (s .journal)) ≡ true) ⊎ ((x ≡ me) × (posts (nextAction table s a) ≡ notes))
+            → (posts (actionAt table x) ≡ notes) × (x .position < step table s a .actor (x .actor) .position)
+        listed (inl old) = let k = r .noted-below x .0 old in (k .0, omega (arith, k .1, position-rises table s (x .actor) a))
+        listed (inr new) = rw (new .0) (new .1, omega (arith, own-position table s a))
+
+        holds : (posts (actionAt table x) ≡ notes) × (x .position < step table s a .actor (x .actor) .position)
+            → (eqName x me ≡ true) ⊎ (eqName x me ≡ false) → mem x (notedIn (step table s a .journal)) ≡ true
+        holds h (inl e) =
+            let same : x ≡ me = eqName-true x me e in
+            ap (λ (y : Name). mem y (notedIn (step table s a .journal))) same
+            ∙ noting-adds (posts (nextAction table s a)) me _ (s .journal) (ap (λ (y : Name). posts (actionAt table y)) (sym same) ∙ h .0)
+        holds h (inr e) =
+            let ne : x ≢ me = λ k. contrary (ap (λ (y : Name). eqName y me) k ∙ eqName-refl me) e in
+            noting-keeps (posts (nextAction table s a)) me x _ (s .journal) (r .noted-below x .1 (h .0, was-below x ne (h .1)))
+
     module _ (is-ready : ready table s a ≡ true) where
       step-position : (b : ℕ) → step table s a .actor b .position ≤ countOf table b
       step-position b = go (which (eqb b a))
@@ -161,6 +188,8 @@ module _ (table : List ℕ) (s : Site) (r : Reached table s) where
             mail = step-mail;
             queued-once = once-queueing (posts (nextAction table s a)) a (s .queue) (r .queued-once);
             queued-locked = step-locked;
+            noted-below = step-noted;
+            noted-once = noting-once (posts (nextAction table s a)) me _ (s .journal) (r .noted-once) next-unnoted;
           }
 
 pub reached-final : (table : List ℕ) (s : Site) (p : List ℕ) → Reached table s → accepted (machine table) s p ≡ true

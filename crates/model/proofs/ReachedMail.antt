@@ -6,35 +6,34 @@ use mathlib.Core.Logic.{_⊎_, inl, inr, _≢_}
 use mathlib.Core.Bool.{true, false, true≢false}
 use mathlib.Core.List.{List, [], _∷_}
 use Rattle.table.specs.declared.Action.{Action}
-use Rattle.table.specs.declared.Action.the-variants.{Set, Add, Lesser, Send, Receive, TestAny, WaitAny, Lock, Unlock, MutexTest, MutexWait}
 use Rattle.table.specs.Promise.{isPost}
 use Rattle.trace.specs.Machine.{Name}
 use Rattle.trace.specs.Order.{eqName, mem}
 use Rattle.trace.proofs.Bools.{contrary, is-false}
 use Rattle.trace.proofs.Names.{mem-head}
 use Rattle.model.specs.Site.{upd, sends, receives, eqSide, Port, opposite, Comm, unposted, pending, done, Mail}
-use Rattle.model.specs.Views.{Post, silent, mails, joins, leaves, posts, sent}
+use Rattle.model.specs.Views.{Post, silent, mails, joins, leaves, notes, posts, sent}
 use Rattle.model.specs.Mail.{meetWith, mailing}
+use Rattle.model.specs.Pair.{isNote}
 use Rattle.model.specs.Reached.{isPosted, isPending, MailRight}
 use Rattle.model.proofs.Upd.{upd-same, upd-other, upd-at}
 use Rattle.model.proofs.Ports.{name-test}
+use Rattle.model.proofs.ByKind.{Posting, quiet, sends-to, receives-from, locks, unlocks, writes-down, posting}
 use Rattle.model.proofs.ReportBoundMail.{meeting-distinct, meeting-one-sided}
 use Rattle.model.proofs.ReachedQueued.{pending-posted, one-port, joined-zero, joined-done, joined-opposite, joined-queued}
 use Rattle.model.proofs.ReachedPaired.{paired-zero, paired-done, paired-opposite, paired-queued}
 
 -- a Receive keeps 0
 pub receive-sends-zero : (x : Action) (cells : List ℕ) (mailbox : ℕ) → posts x ≡ mails (record { mailbox = mailbox; side = receives }) → sent x cells ≡ 0
-receive-sends-zero (Set cell value) cells mailbox h = refl
-receive-sends-zero (Add cell other) cells mailbox h = refl
-receive-sends-zero (Lesser cell other) cells mailbox h = refl
-receive-sends-zero (Send box cell) cells mailbox h = absurd (true≢false (ap (λ (p : Port). eqSide (p .side) sends) (one-port h)))
-receive-sends-zero (Receive box cell) cells mailbox h = refl
-receive-sends-zero (TestAny result list) cells mailbox h = refl
-receive-sends-zero (WaitAny result list) cells mailbox h = refl
-receive-sends-zero (Lock mutex) cells mailbox h = refl
-receive-sends-zero (Unlock mutex) cells mailbox h = refl
-receive-sends-zero (MutexTest result list) cells mailbox h = refl
-receive-sends-zero (MutexWait result list) cells mailbox h = refl
+receive-sends-zero x cells mailbox h = go (posting x)
+  where
+    go : Posting x → sent x cells ≡ 0
+    go (quiet q) = q .sends-none cells
+    go (sends-to m c e) = absurd (true≢false (ap (λ (p : Port). eqSide (p .side) sends) (one-port (sym (ap posts e) ∙ h))))
+    go (receives-from m c e) = rw e
+    go (locks m e) = rw e
+    go (unlocks m e) = rw e
+    go (writes-down c e) = absurd (true≢false (ap isNote (sym (ap posts e) ∙ h)))
 
 -- ---- the mail stays right
 
@@ -70,6 +69,7 @@ module _ (postOf : Name → Post) (me : Name) (v : ℕ) (m : Mail) (fresh : m .c
   mailing-right (mails P) mine zero = meeting-right P mine (λ mailbox e. zero mailbox (ap mails e)) (m .waiting (opposite P)) refl
   mailing-right (joins n) mine zero = right
   mailing-right (leaves n) mine zero = right
+  mailing-right notes mine zero = right
 
 -- ---- which steps are posted
 
@@ -79,17 +79,15 @@ meeting-posts [] P me v m = ap isPosted (upd-same name-test (m .comm) me (pendin
 meeting-posts (y ∷ l) P me v m = ap isPosted (upd-same name-test (upd eqName (m .comm) y (done me _)) me (done y _))
 
 pub own-posted : (x : Action) (me : Name) (v : ℕ) (m : Mail) → m .comm me ≡ unposted → isPosted (mailing (posts x) me v m .comm me) ≡ isPost x
-own-posted (Set cell value) me v m fresh = ap isPosted fresh
-own-posted (Add cell other) me v m fresh = ap isPosted fresh
-own-posted (Lesser cell other) me v m fresh = ap isPosted fresh
-own-posted (Send mailbox cell) me v m fresh = meeting-posts (m .waiting _) _ me v m
-own-posted (Receive mailbox cell) me v m fresh = meeting-posts (m .waiting _) _ me v m
-own-posted (TestAny result list) me v m fresh = ap isPosted fresh
-own-posted (WaitAny result list) me v m fresh = ap isPosted fresh
-own-posted (Lock mutex) me v m fresh = ap isPosted fresh
-own-posted (Unlock mutex) me v m fresh = ap isPosted fresh
-own-posted (MutexTest result list) me v m fresh = ap isPosted fresh
-own-posted (MutexWait result list) me v m fresh = ap isPosted fresh
+own-posted x me v m fresh = go (posting x)
+  where
+    go : Posting x → isPosted (mailing (posts x) me v m .comm me) ≡ isPost x
+    go (quiet q) = rw (q .posts-none, q .no-post) (ap isPosted fresh)
+    go (sends-to mailbox c e) = rw e (meeting-posts (m .waiting _) _ me v m)
+    go (receives-from mailbox c e) = rw e (meeting-posts (m .waiting _) _ me v m)
+    go (locks n e) = rw e (ap isPosted fresh)
+    go (unlocks n e) = rw e (ap isPosted fresh)
+    go (writes-down c e) = rw e (ap isPosted fresh)
 
 -- and any other as before: a partner was posted too
 meeting-others : (l : List Name) (P : Port) (me x : Name) (v : ℕ) (m : Mail) → x ≢ me → ((y : Name) → mem y l ≡ true → isPosted (m .comm y) ≡ true)
@@ -109,3 +107,4 @@ others-posted postOf (mails P) me x v m ne right =
     meeting-others (m .waiting (opposite P)) P me x v m ne (λ y h. pending-posted (m .comm y) (right .pending-queued (opposite P) y .0 h .0))
 others-posted postOf (joins n) me x v m ne right = refl
 others-posted postOf (leaves n) me x v m ne right = refl
+others-posted postOf notes me x v m ne right = refl

@@ -1,4 +1,4 @@
--- No report passes the bound of its table, section by section; and the bound of an accepted table does not pass 2,912.
+-- No report passes the bound of its table, section by section; and the bound of an accepted table does not pass 4,450.
 -- Assumes nothing.
 use Prim.Native.Nat.{ℕ, _+_, _*_, _≤_}
 use native.Mathlib.Omega.{arith}
@@ -11,15 +11,17 @@ use Rattle.table.specs.Promise.{WellFormed, isPost}
 use Rattle.table.specs.Decode.{decodeAs, actionOf}
 use Rattle.trace.specs.Machine.{Name}
 use Rattle.trace.specs.Schedule.{accepted}
-use Rattle.model.specs.Site.{Actor, Port, Comm, unposted, pending, done, Site, name, initial}
-use Rattle.model.specs.Report.{actorBytes, commBytes, nameBytes, boxBytes, mutexBytes, parts, boxQueue, actorsPart, actionsPart, boxesPart, mutexesPart, report}
-use Rattle.model.specs.Bound.{actionCount, postsOf, postCount, hasLock, lockersOf, lockerCount, reportBound, ReportsFit}
+use Rattle.model.specs.Site.{Actor, Port, Comm, unposted, pending, done, Entry, Site, name, initial}
+use Rattle.model.specs.Views.{posts}
+use Rattle.model.specs.Pair.{isNote}
+use Rattle.model.specs.Report.{actorBytes, commBytes, nameBytes, boxBytes, mutexBytes, parts, boxQueue, actorsPart, actionsPart, boxesPart, mutexesPart, entryBytes, journalBytes, report}
+use Rattle.model.specs.Bound.{actionCount, postsOf, postCount, hasLock, lockersOf, lockerCount, notesOf, noteCount, reportBound, ReportsFit}
 use Rattle.model.specs.Schedule.{machine}
 use Rattle.model.specs.Reached.{Reached}
 use Rattle.model.specs.Cases.{tableA}
 use Rattle.model.proofs.ReportBoundCounts.{total-le, total-most, total-add, total-times, length-parts, howMany-most}
 use Rattle.model.proofs.Reached.{reached-end}
-use Rattle.model.proofs.ReportBoundLengths.{boxes-length, box-most, port-most, queue-length}
+use Rattle.model.proofs.ReportBoundLengths.{boxes-length, box-most, port-most, queue-length, journal-length}
 use Rattle.model.proofs.ReportBoundSteps.{entries-most}
 
 -- ---- the parts of a section
@@ -38,6 +40,13 @@ names-length (x ∷ l) = omega (arith, names-length l)
 
 pub box-bytes : (l : List Name) → length (boxBytes l) ≡ 2 + 2 * length l
 box-bytes l = omega (arith, names-length l)
+
+entries-length : (l : List Entry) → length (entryBytes l) ≡ 6 * length l
+entries-length [] = refl
+entries-length (x ∷ l) = omega (arith, entries-length l)
+
+pub journal-bytes : (l : List Entry) → length (journalBytes l) ≡ 2 + 6 * length l
+journal-bytes l = omega (arith, entries-length l)
 
 -- ---- the sections
 
@@ -101,13 +110,16 @@ module _ (table : List ℕ) (s : Site) where
     report-length =
         omega (
           arith,
-          length-append (actorsPart table s) (actionsPart table s ++ (boxesPart table s ++ mutexesPart table s)),
-          length-append (actionsPart table s) (boxesPart table s ++ mutexesPart table s),
-          length-append (boxesPart table s) (mutexesPart table s),
+          length-append (actorsPart table s) (actionsPart table s ++ (boxesPart table s ++ (mutexesPart table s ++ journalBytes (s .journal)))),
+          length-append (actionsPart table s) (boxesPart table s ++ (mutexesPart table s ++ journalBytes (s .journal))),
+          length-append (boxesPart table s) (mutexesPart table s ++ journalBytes (s .journal)),
+          length-append (mutexesPart table s) (journalBytes (s .journal)),
           actors-length,
           actions-length,
           boxes-section,
           mutexes-section,
+          journal-bytes (s .journal),
+          journal-length table s r,
         )
 
 -- ---- the bounds of an accepted table
@@ -133,9 +145,18 @@ module _ (table : List ℕ) (ok : WellFormed table) where
         ok .mutexes-most,
       )
 
-  pub bound-most : reportBound table ≤ 2912
+  pub notes-most : noteCount table ≤ 256
+  notes-most =
+      omega (
+        arith,
+        total-le (notesOf table) (countOf table) (actorsOf table) 0
+            (λ a l h. howMany-most (λ k. isNote (posts (actionOf table a k))) (countOf table a) 0),
+        actions-most,
+      )
+
+  pub bound-most : reportBound table ≤ 4450
   unfolding reportBound
-  bound-most = omega (arith, actions-most, posts-most, lockers-most, ok .actors-most, ok .mailboxes-most, ok .mutexes-most)
+  bound-most = omega (arith, actions-most, posts-most, lockers-most, notes-most, ok .actors-most, ok .mailboxes-most, ok .mutexes-most)
 
   pub reports-fit : ReportsFit table
   reports-fit = record { fits = λ p h. report-length table _ (reached-end table p h); room = bound-most }
@@ -147,10 +168,13 @@ module _ (table : List ℕ) (ok : WellFormed table) where
   pub port-room : (s : Site) → Reached table s → (p : Port) → length (s .mail .waiting p) ≤ 256
   port-room s r p = omega (arith, port-most table s r p, posts-most)
 
+  pub journal-room : (s : Site) → Reached table s → length (s .journal) ≤ 256
+  journal-room s r = omega (arith, journal-length table s r, notes-most)
+
   pub entries-room : (p : List ℕ) → accepted (machine table) initial p ≡ true → length p ≤ 256
   entries-room p h = omega (arith, entries-most table p h, actions-most)
 
--- table A's bound, by computation: 66 + 32 + 2 + 4
-pub bound-A : reportBound tableA ≡ 104
+-- table A's bound, by computation: 66 + 32 + 2 + 4 + 2
+pub bound-A : reportBound tableA ≡ 106
 unfolding reportBound decodeAs
 bound-A = refl

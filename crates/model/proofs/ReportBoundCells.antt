@@ -9,12 +9,11 @@ use lib.Dec.{eqb}
 use borrow.Author.Tests.{eqb-true, eqb-false}
 use lib.ListN.{length, length-set}
 use Rattle.table.specs.declared.Action.{Action}
-use Rattle.table.specs.declared.Action.the-variants.{Set, Add, Lesser, Send, Receive, TestAny, WaitAny, Lock, Unlock, MutexTest, MutexWait}
 use Rattle.trace.specs.Schedule.{final}
 use Rattle.trace.proofs.Bools.{which}
 use Rattle.model.specs.Site.{Site, name, initial}
-use Rattle.model.specs.Views.{looks, pickUp}
-use Rattle.model.specs.Local.{Seen, unseen, seen, see, pickUpSeen, cellsAfter, local}
+use Rattle.model.specs.Views.{Look, blind, communications, mutexes, Write, keeps, puts, written, viewOf, looks}
+use Rattle.model.specs.Local.{Seen, unseen, seen, see, placeSeen, pickUpSeen, pickedUp, cellsAfter, local}
 use Rattle.model.specs.Step.{actionAt, nextAction, step}
 use Rattle.model.specs.Schedule.{machine, endState}
 use Rattle.model.proofs.Upd.{upd-same}
@@ -23,36 +22,22 @@ use Rattle.model.proofs.Invariant.{others-record}
 
 -- ---- a local step keeps the number of cells
 
-pickUp-length : (x : Action) (v : ℕ) (cells : List ℕ) → length (pickUp x v cells) ≡ length cells
-pickUp-length (Set cell value) v cells = refl
-pickUp-length (Add cell other) v cells = refl
-pickUp-length (Lesser cell other) v cells = refl
-pickUp-length (Send mailbox cell) v cells = refl
-pickUp-length (Receive mailbox cell) v cells = length-set cells cell v
-pickUp-length (TestAny result list) v cells = refl
-pickUp-length (WaitAny result list) v cells = refl
-pickUp-length (Lock mutex) v cells = refl
-pickUp-length (Unlock mutex) v cells = refl
-pickUp-length (MutexTest result list) v cells = refl
-pickUp-length (MutexWait result list) v cells = refl
+written-length : (w : Write) (given : ℕ) (cells : List ℕ) → length (written w given cells) ≡ length cells
+written-length keeps given cells = refl
+written-length (puts cell value) given cells = length-set cells cell _
 
-pickUpSeen-length : (own : ℕ → Action) (found : Seen) (cells : List ℕ) → length (pickUpSeen own found cells) ≡ length cells
+pub pickUpSeen-length : (own : ℕ → Action) (found : Seen) (cells : List ℕ) → length (pickUpSeen own found cells) ≡ length cells
 pickUpSeen-length own unseen cells = refl
-pickUpSeen-length own (seen place number value) cells = pickUp-length (own number) value cells
+pickUpSeen-length own (seen place number value) cells = written-length (viewOf (own number) .picked) value cells
+
+pickedUp-length : (own : ℕ → Action) (look : Look) (found : Seen) (cells : List ℕ) → length (pickedUp own look found cells) ≡ length cells
+pickedUp-length own blind found cells = refl
+pickedUp-length own (communications l) found cells = pickUpSeen-length own found cells
+pickedUp-length own (mutexes l) found cells = refl
 
 pub cellsAfter-length : (own : ℕ → Action) (x : Action) (found : Seen) (cells : List ℕ) → length (cellsAfter own x found cells) ≡ length cells
 unfolding cellsAfter
-cellsAfter-length own (Set cell value) found cells = length-set cells cell _
-cellsAfter-length own (Add cell other) found cells = length-set cells cell _
-cellsAfter-length own (Lesser cell other) found cells = length-set cells cell _
-cellsAfter-length own (Send mailbox cell) found cells = refl
-cellsAfter-length own (Receive mailbox cell) found cells = refl
-cellsAfter-length own (TestAny result list) found cells = length-set (pickUpSeen own found cells) result _ ∙ pickUpSeen-length own found cells
-cellsAfter-length own (WaitAny result list) found cells = length-set (pickUpSeen own found cells) result _ ∙ pickUpSeen-length own found cells
-cellsAfter-length own (Lock mutex) found cells = refl
-cellsAfter-length own (Unlock mutex) found cells = refl
-cellsAfter-length own (MutexTest result list) found cells = length-set cells result _
-cellsAfter-length own (MutexWait result list) found cells = length-set cells result _
+cellsAfter-length own x found cells = written-length (viewOf x .writes) (placeSeen found) _ ∙ pickedUp-length own (looks x) found cells
 
 -- ---- and so does every step
 

@@ -9,9 +9,8 @@ use mathlib.Core.Bool.{Bool, true, false}
 use mathlib.Core.List.{List, []}
 use lib.Dec.{eqb, ltb}
 use borrow.Author.Tests.{eq-eqb, ltb-true, ltb-false}
-use lib.ListN.{length, length-append}
+use lib.ListN.{length, length-append, length-map}
 use Rattle.table.specs.declared.Action.{Action}
-use Rattle.table.specs.declared.Action.the-variants.{Set, Add, Lesser, Send, Receive, TestAny, WaitAny, Lock, Unlock, MutexTest, MutexWait}
 use Rattle.table.specs.Format.{actorsOf, countOf}
 use Rattle.table.specs.Promise.{isPost}
 use Rattle.trace.specs.Machine.{Name}
@@ -20,17 +19,18 @@ use Rattle.trace.specs.Inversions.{count}
 use Rattle.trace.specs.Order.{has}
 use Rattle.trace.proofs.Bools.{which}
 use Rattle.model.specs.Site.{Side, sends, receives, Port, Site, name}
-use Rattle.model.specs.Views.{Post, silent, mails, joins, leaves, posts}
+use Rattle.model.specs.Views.{Post, silent, mails, joins, leaves, notes, posts}
 use Rattle.model.specs.Ready.{bit}
-use Rattle.model.specs.Pair.{isJoin}
+use Rattle.model.specs.Pair.{isJoin, isNote}
 use Rattle.model.specs.Step.{actionAt}
 use Rattle.model.specs.Report.{boxQueue}
-use Rattle.model.specs.Bound.{total, postCount, hasLock, lockersOf}
-use Rattle.model.specs.Reached.{Locked, Reached}
+use Rattle.model.specs.Bound.{total, postCount, hasLock, lockersOf, noteCount}
+use Rattle.model.specs.Reached.{Locked, notedIn, Reached}
 use Rattle.model.proofs.ReportBoundCounts.{total-le, total-most, howMany-most, some-of, one-place}
 use Rattle.model.proofs.ReportBoundNames.{allNames, all-names, distinct-count, count-all, counts-apart}
 use Rattle.model.proofs.ReportBoundQueues.{once-count}
 use Rattle.model.proofs.Reached.{pending-inv}
+use Rattle.model.proofs.ByKind.{Posting, quiet, sends-to, receives-from, locks, unlocks, writes-down, posting}
 
 -- what is posted is a communication in this mailbox, on either side
 abbrev toBox : ℕ → Post → Bool
@@ -38,23 +38,22 @@ toBox m silent = false
 toBox m (mails p) = eqb (p .mailbox) m
 toBox m (joins n) = false
 toBox m (leaves n) = false
+toBox m notes = false
 
 none-posted : (n k : ℕ) → total (λ m. bit false) n k ≤ 0
 none-posted n k = omega (arith, total-most (λ m. 0) 0 n k (λ j a b. omega arith))
 
 -- a Send or Receive goes to one mailbox, any other action to none
 one-box : (x : Action) (n k : ℕ) → total (λ m. bit (toBox m (posts x))) n k ≤ bit (isPost x)
-one-box (Set cell value) n k = none-posted n k
-one-box (Add cell other) n k = none-posted n k
-one-box (Lesser cell other) n k = none-posted n k
-one-box (Send mailbox cell) n k = one-place mailbox n k
-one-box (Receive mailbox cell) n k = one-place mailbox n k
-one-box (TestAny result list) n k = none-posted n k
-one-box (WaitAny result list) n k = none-posted n k
-one-box (Lock mutex) n k = none-posted n k
-one-box (Unlock mutex) n k = none-posted n k
-one-box (MutexTest result list) n k = none-posted n k
-one-box (MutexWait result list) n k = none-posted n k
+one-box x n k = go (posting x)
+  where
+    go : Posting x → total (λ m. bit (toBox m (posts x))) n k ≤ bit (isPost x)
+    go (quiet q) = rw (q .posts-none, q .no-post) (none-posted n k)
+    go (sends-to mailbox c e) = rw e (one-place mailbox n k)
+    go (receives-from mailbox c e) = rw e (one-place mailbox n k)
+    go (locks m e) = rw e (none-posted n k)
+    go (unlocks m e) = rw e (none-posted n k)
+    go (writes-down c e) = rw e (none-posted n k)
 
 abbrev pub portOf : ℕ → Side → Port
 portOf m d = record { mailbox = m; side = d }
@@ -155,3 +154,22 @@ module _ (table : List ℕ) (s : Site) (r : Reached table s) where
 
   pub queue-most : (m : ℕ) → length (s .queue m) ≤ actorsOf table
   queue-most m = omega (arith, queue-length m, howMany-most (hasLock table m) (actorsOf table) 0)
+
+  -- ---- the journal
+
+  pub journal-length : length (s .journal) ≤ noteCount table
+  journal-length =
+      omega (
+        arith,
+        length-map (s .journal) (λ e. e .step),
+        distinct-count (λ x. isNote (posts (actionAt table x))) (notedIn (s .journal)) (allNames table) (r .noted-once) counted,
+        count-all (λ x. isNote (posts (actionAt table x))) table,
+      )
+    where
+      counted : (x : Name) → mem x (notedIn (s .journal)) ≡ true → (mem x (allNames table) ≡ true) × (isNote (posts (actionAt table x)) ≡ true)
+      counted x h =
+          let k = r .noted-below x .0 h in
+          let low : x .position < s .actor (x .actor) .position = k .1 in (
+            all-names table x (stepped-actor (x .actor) (omega arith)) (omega (arith, r .position-most (x .actor))),
+            ap isNote (k .0),
+          )

@@ -18,7 +18,7 @@ use Rattle.model.proofs.Invariant.{mem-append}
 
 -- ---- no name twice
 
-distinct-append : (x : Name) (l : List Name) → Distinct l → mem x l ≡ false → Distinct (l ++ (x ∷ []))
+pub distinct-append : (x : Name) (l : List Name) → Distinct l → mem x l ≡ false → Distinct (l ++ (x ∷ []))
 distinct-append x [] d n = (refl, tt)
 distinct-append x (y ∷ l) d n =
     (is-false _ (λ h. twice (mem-append y x l h)), distinct-append x l (d .1) (or-false-right (eqName x y) (mem x l) n))

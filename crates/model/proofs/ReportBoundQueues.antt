@@ -11,7 +11,7 @@ use borrow.Author.Tests.{eqb-true, eqb-false, eq-eqb}
 use lib.ListN.{length}
 use Rattle.trace.specs.Order.{has}
 use Rattle.trace.proofs.Bools.{which, contrary, is-false, or-left, or-right, or-cases, or-false-left, or-false-right}
-use Rattle.model.specs.Views.{Post, silent, mails, joins, leaves}
+use Rattle.model.specs.Views.{Post, silent, mails, joins, leaves, notes}
 use Rattle.model.specs.Mutex.{join, leave, queueing}
 use Rattle.model.specs.Ready.{howMany}
 use Rattle.model.specs.Reached.{Once}
@@ -123,6 +123,7 @@ once-queueing (joins n) a f o m = go (which (eqb m n))
     go : (eqb m n ≡ true) ⊎ (eqb m n ≡ false) → Once (queueing (joins n) a f m)
     go (inl e) = rw e (joined (which (has (f n) a)))
     go (inr e) = rw e (o m)
+once-queueing notes a f o m = o m
 once-queueing (leaves n) a f o m = go (which (eqb m n))
   where
     go : (eqb m n ≡ true) ⊎ (eqb m n ≡ false) → Once (queueing (leaves n) a f m)
@@ -148,6 +149,7 @@ queueing-members (joins n) a f m b h = go (which (eqb m n))
     go : (eqb m n ≡ true) ⊎ (eqb m n ≡ false) → (has (f m) b ≡ true) ⊎ ((b ≡ a) × (joins n ≡ joins m))
     go (inl e) = joined (which (has (f n) a)) (rw e at h) (sym (eqb-true m n e))
     go (inr e) = inl (rw e at h)
+queueing-members notes a f m b h = inl h
 queueing-members (leaves n) a f m b h = go (which (eqb m n))
   where
     go : (eqb m n ≡ true) ⊎ (eqb m n ≡ false) → (has (f m) b ≡ true) ⊎ ((b ≡ a) × (leaves n ≡ joins m))

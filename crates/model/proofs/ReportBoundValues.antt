@@ -6,13 +6,13 @@ use native.Mathlib.Omega.{arith}
 use mathlib.Core.Path.{_≡_, ap}
 use mathlib.Core.Logic.{_⊎_, inl, inr}
 use mathlib.Core.Bool.{Bool, true, false}
-use mathlib.Core.List.{List, [], _∷_}
+use mathlib.Core.List.{List, [], _∷_, _++_}
 use lib.Dec.{eqb, ltb}
 use borrow.Author.Tests.{eqb-true, eqb-false, ltb-true, ltb-false}
 use lib.ListN.{length, getD, set, replicate, length-take, List·getD-map}
 use lib.Seq.{getD-set-same, getD-set-other, set-out}
 use Rattle.table.specs.declared.Action.{Action}
-use Rattle.table.specs.declared.Action.the-variants.{Set, Add, Lesser, Send, Receive, TestAny, WaitAny, Lock, Unlock, MutexTest, MutexWait}
+use Rattle.table.specs.declared.Action.the-variants.{Set, Add, Lesser, Send, Receive, TestAny, WaitAny, Lock, Unlock, MutexTest, MutexWait, Note}
 use Rattle.table.specs.declared.Numbers.{Numbers}
 use Rattle.table.specs.Format.{byteAt, valueAt}
 use Rattle.table.specs.Decode.{decodeAs}
@@ -21,12 +21,14 @@ use Rattle.trace.specs.Order.{eqName}
 use Rattle.trace.specs.Schedule.{accepted, final}
 use Rattle.trace.proofs.Bools.{which}
 use Rattle.trace.proofs.Run.{first-ready, rest-accepted}
-use Rattle.model.specs.Site.{upd, Side, sends, receives, Port, opposite, Comm, Mail, Site, name, initial}
-use Rattle.model.specs.Views.{listed, Post, silent, mails, joins, leaves, posts, looks, sent, pickUp, total, largest, runsOver}
+use Rattle.model.specs.Site.{upd, Side, sends, receives, Port, opposite, Comm, Mail, Entry, Site, name, initial}
+use Rattle.model.specs.Views.{listed, Post, silent, mails, joins, leaves, notes, posts, Look, blind, communications, mutexes, looks, sent, Write, keeps, puts, written, viewOf, total, largest, runsOver}
 use Rattle.model.specs.Mail.{carried, pairValue, meetWith, mailing}
-use Rattle.model.specs.Local.{Seen, unseen, seen, first, see, placeSeen, pickUpSeen, cellsAfter}
+use Rattle.model.specs.Journal.{noting}
+use Rattle.model.specs.Local.{Seen, unseen, seen, first, see, placeSeen, pickUpSeen, pickedUp, cellsAfter}
 use Rattle.model.specs.Step.{isTaken, actionAt, nextName, nextAction, passes, ready, step}
 use Rattle.model.specs.Schedule.{machine, endState}
+use Rattle.model.proofs.ByKind.{Posting, quiet, sends-to, receives-from, locks, unlocks, writes-down, posting, Looking, blindly, testing, mutex-testing, looking, test-looks, mutex-looks}
 use Rattle.model.proofs.Invariant.{others-record}
 use Rattle.model.proofs.NextSteps.{taken-fits}
 use Rattle.model.proofs.Checks.{ready-parts}
@@ -60,6 +62,7 @@ setValue (Lock mutex) = 0
 setValue (Unlock mutex) = 0
 setValue (MutexTest result list) = 0
 setValue (MutexWait result list) = 0
+setValue (Note cell) = 0
 
 zeros-small : (n : ℕ) → SmallCells (replicate n 0)
 zeros-small zero j = omega arith
@@ -74,7 +77,7 @@ module _ (table : List ℕ) (bytes : (j : ℕ) → byteAt table j < 256) where
   decoded-small : (kind at : ℕ) → Small (setValue (decodeAs kind table at))
   unfolding decodeAs
   decoded-small zero at = value-small at
-  decoded-small (suc kind) at = rw (← List·getD-map setValue) (zeros-small 9 kind)
+  decoded-small (suc kind) at = rw (← List·getD-map setValue) (zeros-small 10 kind)
 
   action-small : (x : Name) → Small (setValue (actionAt table x))
   action-small x = decoded-small _ _
@@ -105,68 +108,96 @@ abbrev pub SmallMail : Mail → Type 0
 SmallMail m = (x : Name) → Small (carried (m .comm x))
 
 see-small : (s : Site) → SmallMail (s .mail) → (a : ℕ) (x : Action) → SmallSeen (see s a (looks x))
-see-small s h a (Set cell value) = tt
-see-small s h a (Add cell other) = tt
-see-small s h a (Lesser cell other) = tt
-see-small s h a (Send mailbox cell) = tt
-see-small s h a (Receive mailbox cell) = tt
-see-small s h a (TestAny result list) = first-small _ _ 1 (listed list) (listed-short list) (λ k. h (name a k))
-see-small s h a (WaitAny result list) = first-small _ _ 1 (listed list) (listed-short list) (λ k. h (name a k))
-see-small s h a (Lock mutex) = tt
-see-small s h a (Unlock mutex) = tt
-see-small s h a (MutexTest result list) = first-small _ _ 1 (listed list) (listed-short list) (λ k. omega arith)
-see-small s h a (MutexWait result list) = first-small _ _ 1 (listed list) (listed-short list) (λ k. omega arith)
+see-small s h a x = go (looking x)
+  where
+    go : Looking x → SmallSeen (see s a (looks x))
+    go (blindly e) = rw e tt
+    go (testing list w) = rw (test-looks x list w) (first-small _ _ 1 (listed list) (listed-short list) (λ k. h (name a k)))
+    go (mutex-testing list w) = rw (mutex-looks x list w) (first-small _ _ 1 (listed list) (listed-short list) (λ k. omega arith))
 
 -- ---- the cells after a local step
 
-pickUp-small : (x : Action) (v : ℕ) (cells : List ℕ) → SmallCells cells → Small v → SmallCells (pickUp x v cells)
-pickUp-small (Set cell value) v cells h w = h
-pickUp-small (Add cell other) v cells h w = h
-pickUp-small (Lesser cell other) v cells h w = h
-pickUp-small (Send mailbox cell) v cells h w = h
-pickUp-small (Receive mailbox cell) v cells h w = set-small cells cell v h w
-pickUp-small (TestAny result list) v cells h w = h
-pickUp-small (WaitAny result list) v cells h w = h
-pickUp-small (Lock mutex) v cells h w = h
-pickUp-small (Unlock mutex) v cells h w = h
-pickUp-small (MutexTest result list) v cells h w = h
-pickUp-small (MutexWait result list) v cells h w = h
+-- what is written fits
+abbrev SmallWrite : Write → (given : ℕ) (cells : List ℕ) → Type 0
+SmallWrite keeps given cells = Unit {0}
+SmallWrite (puts cell value) given cells = Small (value given cells)
+
+written-small : (w : Write) (given : ℕ) (cells : List ℕ) → SmallCells cells → SmallWrite w given cells → SmallCells (written w given cells)
+written-small keeps given cells h w = h
+written-small (puts cell value) given cells h w = set-small cells cell _ h w
+
+-- a value that is picked up is written as it is
+picked-fits : (x : Action) (v : ℕ) (cells : List ℕ) → Small v → SmallWrite (viewOf x .picked) v cells
+picked-fits x v cells h = go (posting x)
+  where
+    go : Posting x → SmallWrite (viewOf x .picked) v cells
+    go (quiet q) = rw (q .picks-none) tt
+    go (sends-to m c e) = rw e tt
+    go (receives-from m c e) = rw e h
+    go (locks m e) = rw e tt
+    go (unlocks m e) = rw e tt
+    go (writes-down c e) = rw e tt
 
 pickUpSeen-small : (own : ℕ → Action) (found : Seen) (cells : List ℕ) → SmallCells cells → SmallSeen found → SmallCells (pickUpSeen own found cells)
 pickUpSeen-small own unseen cells h w = h
-pickUpSeen-small own (seen place number value) cells h w = pickUp-small (own number) value cells h (w .1)
+pickUpSeen-small own (seen place number value) cells h w =
+    written-small (viewOf (own number) .picked) value cells h (picked-fits (own number) value cells (w .1))
+
+pickedUp-small : (own : ℕ → Action) (look : Look) (found : Seen) (cells : List ℕ) → SmallCells cells → SmallSeen found
+    → SmallCells (pickedUp own look found cells)
+pickedUp-small own blind found cells h w = h
+pickedUp-small own (communications l) found cells h w = pickUpSeen-small own found cells h w
+pickedUp-small own (mutexes l) found cells h w = h
+
+-- what a step writes: the value of a Set, a total, the smaller of two cells, a place
+write-fits : (x : Action) (place : ℕ) (cells : List ℕ) → SmallCells cells → Small (setValue x) → Small (total x cells) → Small place
+    → SmallWrite (viewOf x .writes) place cells
+write-fits (Set cell value) place cells h x t w = x
+write-fits (Add cell other) place cells h x t w = t
+write-fits (Lesser cell other) place cells h x t w = omega (arith, h cell)
+write-fits (Send mailbox cell) place cells h x t w = tt
+write-fits (Receive mailbox cell) place cells h x t w = tt
+write-fits (TestAny result list) place cells h x t w = w
+write-fits (WaitAny result list) place cells h x t w = w
+write-fits (Lock mutex) place cells h x t w = tt
+write-fits (Unlock mutex) place cells h x t w = tt
+write-fits (MutexTest result list) place cells h x t w = w
+write-fits (MutexWait result list) place cells h x t w = w
+write-fits (Note cell) place cells h x t w = tt
+
+-- a step that picks up makes no total
+total-kept : (own : ℕ → Action) (x : Action) (found : Seen) (cells : List ℕ) → Small (total x cells) → Small (total x (pickedUp own (looks x) found cells))
+total-kept own x found cells t = go (looking x)
+  where
+    none : (list : Numbers) (result : ℕ) → (x ≡ TestAny result list) ⊎ (x ≡ WaitAny result list) → Small (total x (pickedUp own (looks x) found cells))
+    none list result (inl e) = rw e (omega arith)
+    none list result (inr e) = rw e (omega arith)
+
+    go : Looking x → Small (total x (pickedUp own (looks x) found cells))
+    go (blindly e) = rw e t
+    go (testing list w) = none list (w .0) (w .1)
+    go (mutex-testing list w) = rw (mutex-looks x list w) t
 
 cellsAfter-small : (own : ℕ → Action) (x : Action) (found : Seen) (cells : List ℕ) → SmallCells cells → Small (setValue x) → Small (total x cells)
     → SmallSeen found → SmallCells (cellsAfter own x found cells)
 unfolding cellsAfter
-cellsAfter-small own (Set cell value) found cells h x t w = set-small cells cell value h x
-cellsAfter-small own (Add cell other) found cells h x t w = set-small cells cell _ h t
-cellsAfter-small own (Lesser cell other) found cells h x t w = set-small cells cell _ h (omega (arith, h cell))
-cellsAfter-small own (Send mailbox cell) found cells h x t w = h
-cellsAfter-small own (Receive mailbox cell) found cells h x t w = h
-cellsAfter-small own (TestAny result list) found cells h x t w =
-    set-small (pickUpSeen own found cells) result _ (pickUpSeen-small own found cells h w) (place-small found w)
-cellsAfter-small own (WaitAny result list) found cells h x t w =
-    set-small (pickUpSeen own found cells) result _ (pickUpSeen-small own found cells h w) (place-small found w)
-cellsAfter-small own (Lock mutex) found cells h x t w = h
-cellsAfter-small own (Unlock mutex) found cells h x t w = h
-cellsAfter-small own (MutexTest result list) found cells h x t w = set-small cells result _ h (place-small found w)
-cellsAfter-small own (MutexWait result list) found cells h x t w = set-small cells result _ h (place-small found w)
+cellsAfter-small own x found cells h v t w =
+    let found-in = pickedUp-small own (looks x) found cells h w in
+    written-small (viewOf x .writes) (placeSeen found) (pickedUp own (looks x) found cells) found-in
+    (write-fits x (placeSeen found) (pickedUp own (looks x) found cells) found-in v (total-kept own x found cells t) (place-small found w))
 
 -- ---- the values that communications carry
 
 sent-small : (x : Action) (cells : List ℕ) → SmallCells cells → Small (sent x cells)
-sent-small (Set cell value) cells h = omega arith
-sent-small (Add cell other) cells h = omega arith
-sent-small (Lesser cell other) cells h = omega arith
-sent-small (Send mailbox cell) cells h = h cell
-sent-small (Receive mailbox cell) cells h = omega arith
-sent-small (TestAny result list) cells h = omega arith
-sent-small (WaitAny result list) cells h = omega arith
-sent-small (Lock mutex) cells h = omega arith
-sent-small (Unlock mutex) cells h = omega arith
-sent-small (MutexTest result list) cells h = omega arith
-sent-small (MutexWait result list) cells h = omega arith
+sent-small x cells h = go (posting x)
+  where
+    go : Posting x → Small (sent x cells)
+    go (quiet q) = omega (arith, q .sends-none cells)
+    go (sends-to m c e) = rw e (h c)
+    go (receives-from m c e) = rw e (omega arith)
+    go (locks m e) = rw e (omega arith)
+    go (unlocks m e) = rw e (omega arith)
+    go (writes-down c e) = rw e (h c)
 
 pair-small : (d : Side) (v w : ℕ) → Small v → Small w → Small (pairValue d v w)
 pair-small sends v w h k = omega arith
@@ -191,16 +222,35 @@ mailing-small silent x v m h w = h
 mailing-small (mails P) x v m h w = meeting-small (m .waiting (opposite P)) P x v m h w
 mailing-small (joins k) x v m h w = h
 mailing-small (leaves k) x v m h w = h
+mailing-small notes x v m h w = h
+
+-- ---- the values in the journal
+
+abbrev pub SmallJournal : List Entry → Type 0
+SmallJournal [] = Unit {0}
+SmallJournal (e ∷ j) = Small (e .value) × SmallJournal j
+
+append-small : (j : List Entry) (e : Entry) → SmallJournal j → Small (e .value) → SmallJournal (j ++ (e ∷ []))
+append-small [] e h w = (w, tt)
+append-small (f ∷ j) e h w = (h .0, append-small j e (h .1) w)
+
+noting-small : (p : Post) (x : Name) (v : ℕ) (j : List Entry) → SmallJournal j → Small v → SmallJournal (noting p x v j)
+noting-small silent x v j h w = h
+noting-small (mails P) x v j h w = h
+noting-small (joins k) x v j h w = h
+noting-small (leaves k) x v j h w = h
+noting-small notes x v j h w = append-small j _ h w
 
 -- ---- every step
 
 pub record SmallSite (s : Site) : Type 0 where
   pub cells : (a : ℕ) → SmallCells (s .actor a .cells)
   pub values : SmallMail (s .mail)
+  pub noted : SmallJournal (s .journal)
 
 pub small-initial : SmallSite initial
 unfolding initial
-small-initial = record { cells = λ a. zeros-small 8; values = λ x. omega arith }
+small-initial = record { cells = λ a. zeros-small 8; values = λ x. omega arith; noted = tt }
 
 -- a step that is taken makes a total that fits
 pub total-small : (table : List ℕ) (s : Site) (a : ℕ) → ready table s a ≡ true → Small (total (nextAction table s a) (s .actor a .cells))
@@ -228,6 +278,9 @@ module _ (table : List ℕ) (bytes : (j : ℕ) → byteAt table j < 256) where
         cells = step-cells s a r h;
         values =
             mailing-small (posts (nextAction table s a)) (nextName table s a) _ (s .mail) (h .values)
+            (sent-small (nextAction table s a) (s .actor a .cells) (h .cells a));
+        noted =
+            noting-small (posts (nextAction table s a)) (nextName table s a) _ (s .journal) (h .noted)
             (sent-small (nextAction table s a) (s .actor a .cells) (h .cells a));
       }
 

@@ -13,10 +13,10 @@ use lib.Seq.{ext-getD}
 use borrow.Author.Tests.{eqb-true, eqb-false}
 use Rattle.trace.specs.Machine.{Name}
 use Rattle.trace.proofs.Bools.{which}
-use Rattle.model.specs.Site.{Actor, Comm, unposted, pending, done}
+use Rattle.model.specs.Site.{Actor, Comm, unposted, pending, done, Entry}
 use Rattle.model.specs.Mail.{carried}
-use Rattle.model.specs.Report.{word, long, parts, actorBytes, commBytes, nameBytes, boxBytes, mutexBytes}
-use Rattle.model.proofs.ReportBoundValues.{Small, SmallCells}
+use Rattle.model.specs.Report.{word, long, parts, actorBytes, commBytes, nameBytes, boxBytes, mutexBytes, entryBytes, journalBytes}
+use Rattle.model.proofs.ReportBoundValues.{Small, SmallCells, SmallJournal}
 
 -- ---- pieces in a row
 
@@ -122,3 +122,23 @@ pub mutex-split : (l k : List ℕ) → (u v : List ℕ) → mutexBytes l ++ u �
 mutex-split l k u v e =
     let count : length l ≡ length k = cc in
     actors-split l k count u v (cc)
+
+-- ---- the journal, whose values are below 2^32
+
+entries-split : (l k : List Entry) → SmallJournal l → SmallJournal k → length l ≡ length k → (u v : List ℕ) → entryBytes l ++ u ≡ entryBytes k ++ v
+    → (l ≡ k) × (u ≡ v)
+entries-split [] [] a b n u v e = (refl, e)
+entries-split [] (y ∷ k) a b n u v e = absurd (omega arith)
+entries-split (x ∷ l) [] a b n u v e = absurd (omega arith)
+entries-split (x ∷ l) (y ∷ k) a b n u v e =
+    let actor : x .step .actor ≡ y .step .actor = cc in
+    let action : x .step .position ≡ y .step .position = cc in
+    let value = long-split (x .value) (y .value) (a .0) (b .0) (entryBytes l ++ u) (entryBytes k ++ v) (cc) in
+    let rest : (l ≡ k) × (u ≡ v) = entries-split l k (a .1) (b .1) (omega arith) u v (value .1) in
+    (λ i. record { step = record { actor = actor i; position = action i }; value = value .0 i } ∷ rest .0 i, rest .1)
+
+pub journal-split : (l k : List Entry) → SmallJournal l → SmallJournal k → length l < 65536 → length k < 65536 → (u v : List ℕ)
+    → journalBytes l ++ u ≡ journalBytes k ++ v → (l ≡ k) × (u ≡ v)
+journal-split l k a b m n u v e =
+    let count = word-split (length l) (length k) m n (entryBytes l ++ u) (entryBytes k ++ v) e in
+    entries-split l k a b (count .0) u v (count .1)

@@ -15,16 +15,16 @@ use Rattle.trace.proofs.Names.{mem-head}
 use Rattle.model.specs.Site.{Side, sends, receives, eqSide, Port, Site, name}
 use Rattle.model.specs.Views.{mails, posts}
 use Rattle.model.specs.Step.{actionAt}
-use Rattle.model.specs.Report.{parts, actorBytes, commBytes, boxBytes, mutexBytes, boxQueue, actorsPart, actionsPart, boxesPart, mutexesPart, report}
+use Rattle.model.specs.Report.{parts, actorBytes, commBytes, boxBytes, mutexBytes, boxQueue, actorsPart, actionsPart, boxesPart, mutexesPart, journalBytes, report}
 use Rattle.model.specs.Reached.{Reached}
 use Rattle.model.specs.Determined.{SameSite}
 use Rattle.model.proofs.ReachedQueued.{one-port}
 use Rattle.model.proofs.ReportBoundCells.{EightCells}
 use Rattle.model.proofs.ReportBoundValues.{SmallSite}
 use Rattle.model.proofs.ReportBoundLengths.{portOf}
-use Rattle.model.proofs.ReportBound.{box-room}
+use Rattle.model.proofs.ReportBound.{box-room, journal-room}
 use Rattle.model.proofs.Parts.{parts-same}
-use Rattle.model.proofs.ReportSplit.{parts-split, actor-split, comm-split, box-split, mutex-split}
+use Rattle.model.proofs.ReportSplit.{parts-split, actor-split, comm-split, box-split, mutex-split, journal-split}
 
 -- ---- the two sides of a mailbox from its one queue
 
@@ -95,8 +95,8 @@ module _ (table : List ℕ) (ok : WellFormed table) (s t : Site) (i : Lossless t
       let actors =
       parts-split (λ a. actorBytes (s .actor a)) (λ a. actorBytes (t .actor a)) (λ a. s .actor a ≡ t .actor a) (actorsOf table) 0
       (λ a l h. actor-split (s .actor a) (t .actor a) (i .eight a) (j .eight a) (i .small .cells a) (j .small .cells a))
-      (actionsPart table s ++ (boxesPart table s ++ mutexesPart table s))
-      (actionsPart table t ++ (boxesPart table t ++ mutexesPart table t))
+      (actionsPart table s ++ (boxesPart table s ++ (mutexesPart table s ++ journalBytes (s .journal))))
+      (actionsPart table t ++ (boxesPart table t ++ (mutexesPart table t ++ journalBytes (t .journal))))
       e in
       let actions =
       parts-split (λ a. parts (λ k. commBytes (s .mail .comm (name a k))) (countOf table a) 0)
@@ -105,8 +105,8 @@ module _ (table : List ℕ) (ok : WellFormed table) (s t : Site) (i : Lossless t
       (actorsOf table)
       0
       (λ a l h. own-split a)
-      (boxesPart table s ++ mutexesPart table s)
-      (boxesPart table t ++ mutexesPart table t)
+      (boxesPart table s ++ (mutexesPart table s ++ journalBytes (s .journal)))
+      (boxesPart table t ++ (mutexesPart table t ++ journalBytes (t .journal)))
       (actors .1) in
       let boxes =
       parts-split (λ m. boxBytes (boxQueue table s m)) (λ m. boxBytes (boxQueue table t m)) (λ m. boxQueue table s m ≡ boxQueue table t m)
@@ -114,20 +114,27 @@ module _ (table : List ℕ) (ok : WellFormed table) (s t : Site) (i : Lossless t
       0
       (λ m l h.
       box-split (boxQueue table s m) (boxQueue table t m) (omega (arith, box-room table ok s (i .reached) m)) (omega (arith, box-room table ok t (j .reached) m)))
-      (mutexesPart table s)
-      (mutexesPart table t)
+      (mutexesPart table s ++ journalBytes (s .journal))
+      (mutexesPart table t ++ journalBytes (t .journal))
       (actions .1) in
       let mutexes =
       parts-split (λ m. mutexBytes (s .queue m)) (λ m. mutexBytes (t .queue m)) (λ m. s .queue m ≡ t .queue m) (mutexesOf table) 0
       (λ m l h. mutex-split (s .queue m) (t .queue m))
+      (journalBytes (s .journal))
+      (journalBytes (t .journal))
+      (boxes .1) in
+      let journal =
+      journal-split (s .journal) (t .journal) (i .small .noted) (j .small .noted) (omega (arith, journal-room table ok s (i .reached)))
+      (omega (arith, journal-room table ok t (j .reached)))
       []
       []
-      (ap (λ (l : List ℕ). l ++ []) (boxes .1)) in
+      (ap (λ (l : List ℕ). l ++ []) (mutexes .1)) in
       record {
         records = λ a h. actors .0 a (omega arith) (omega arith);
         communications = λ a k h l. actions .0 a (omega arith) (omega arith) k (omega arith) (omega arith);
         mailboxes = λ m d h. side-same m (boxes .0 m (omega arith) (omega arith)) d;
         mutexes = λ m h. mutexes .0 m (omega arith) (omega arith);
+        journal = journal .0;
       }
 
 -- ---- states that agree
@@ -146,4 +153,4 @@ module _ (table : List ℕ) (s t : Site) (same : SameSite table s t) where
       (λ m l h i. boxBytes (same .mailboxes m sends (omega arith) i ++ same .mailboxes m receives (omega arith) i)) in
       let mutexes : mutexesPart table s ≡ mutexesPart table t =
       parts-same _ _ (mutexesOf table) 0 (λ m l h. ap mutexBytes (same .mutexes m (omega arith))) in
-      λ i. actors i ++ (actions i ++ (boxes i ++ mutexes i))
+      λ i. actors i ++ (actions i ++ (boxes i ++ (mutexes i ++ journalBytes (same .journal i))))

@@ -2,25 +2,25 @@
 -- Assumes nothing.
 use Prim.Native.Nat.{ℕ, _≤_, _<_}
 use native.Mathlib.Omega.{arith}
-use mathlib.Core.Path.{_≡_, refl, sym, _∙_, fun-ext}
+use mathlib.Core.Path.{_≡_, refl, sym, _∙_, fun-ext, subst}
 use mathlib.Core.Logic.{_⊎_, inl, inr}
 use mathlib.Core.Bool.{true, false}
 use mathlib.Core.List.{List, [], _∷_}
 use lib.Dec.{ltb}
 use borrow.Author.Tests.{ltb-true, ltb-false}
 use Rattle.table.specs.declared.Action.{Action}
-use Rattle.table.specs.declared.Action.the-variants.{Set, Add, Lesser, Send, Receive, TestAny, WaitAny, Lock, Unlock, MutexTest, MutexWait}
 use Rattle.table.specs.Format.{actorsOf, mailboxesOf, mutexesOf, countOf}
 use Rattle.table.specs.Promise.{InRange, WellFormed}
 use Rattle.trace.specs.Machine.{Name}
 use Rattle.trace.specs.Order.{mem, has}
 use Rattle.trace.proofs.Bools.{which}
 use Rattle.model.specs.Site.{Port, Site, name}
-use Rattle.model.specs.Views.{Post, silent, mails, joins, leaves, posts}
+use Rattle.model.specs.Views.{Post, silent, mails, joins, leaves, notes, posts}
 use Rattle.model.specs.Step.{actionAt}
 use Rattle.model.specs.Reached.{Locked, Reached}
 use Rattle.model.specs.Determined.{SameSite}
 use Rattle.model.proofs.Reached.{later-unposted}
+use Rattle.model.proofs.ByKind.{Posting, quiet, sends-to, receives-from, locks, unlocks, writes-down, posting}
 use Rattle.model.proofs.ReportBoundQueues.{has-head}
 use Rattle.model.proofs.ReportBoundLengths.{stepped-actor, pending-named}
 use Rattle.model.proofs.SameReports.{none-held}
@@ -32,19 +32,21 @@ PostInRange table silent = Unit {0}
 PostInRange table (mails p) = p .mailbox < mailboxesOf table
 PostInRange table (joins m) = m < mutexesOf table
 PostInRange table (leaves m) = m < mutexesOf table
+PostInRange table notes = Unit {0}
 
 post-in-range : (table : List ℕ) (actor k : ℕ) (x : Action) → InRange table actor k x → PostInRange table (posts x)
-post-in-range table actor k (Set cell value) h = tt
-post-in-range table actor k (Add cell other) h = tt
-post-in-range table actor k (Lesser cell other) h = tt
-post-in-range table actor k (Send mailbox cell) h = h .0
-post-in-range table actor k (Receive mailbox cell) h = h .0
-post-in-range table actor k (TestAny result list) h = tt
-post-in-range table actor k (WaitAny result list) h = tt
-post-in-range table actor k (Lock mutex) h = h
-post-in-range table actor k (Unlock mutex) h = h
-post-in-range table actor k (MutexTest result list) h = tt
-post-in-range table actor k (MutexWait result list) h = tt
+post-in-range table actor k x h = go (posting x)
+  where
+    in-range : {y : Action} → x ≡ y → InRange table actor k y
+    in-range e = subst (InRange table actor k) e h
+
+    go : Posting x → PostInRange table (posts x)
+    go (quiet q) = rw (q .posts-none) tt
+    go (sends-to mailbox c e) = rw e (in-range e .0)
+    go (receives-from mailbox c e) = rw e (in-range e .0)
+    go (locks m e) = rw e (in-range e)
+    go (unlocks m e) = rw e (in-range e)
+    go (writes-down c e) = rw e tt
 
 none-named : (q : List ℕ) → ((a : ℕ) → has q a ≡ true → ⊥) → q ≡ []
 none-named [] h = refl
@@ -130,4 +132,5 @@ module _ (table : List ℕ) (ok : WellFormed table) (s t : Site) (r : Reached ta
         actor = fun-ext actor-same i;
         mail = record { comm = fun-ext comm-same i; waiting = fun-ext waiting-same i };
         queue = fun-ext queue-same i;
+        journal = same .journal i;
       }

@@ -1,5 +1,5 @@
--- How long a report can be, by the table's own counts: 33 bytes per actor, 8 per action, 2 per mailbox, 2 per Send or Receive, 1 per mutex, and
--- 1 for each actor with a Lock of it.
+-- How long a report can be, by the table's own counts: 33 bytes per actor, 8 per action, 2 per mailbox, 2 per Send or Receive, 1 per mutex and
+-- 1 for each actor with a Lock of it, 2 for the journal and 6 per Note.
 -- Assumes nothing: these are definitions.
 use Prim.Native.Nat.{ℕ, zero, suc, _+_, _*_, _≤_}
 use mathlib.Core.Path.{_≡_}
@@ -13,7 +13,7 @@ use Rattle.trace.specs.Schedule.{accepted}
 use Rattle.model.specs.Site.{initial}
 use Rattle.model.specs.Views.{posts}
 use Rattle.model.specs.Ready.{howMany}
-use Rattle.model.specs.Pair.{isJoin}
+use Rattle.model.specs.Pair.{isJoin, isNote}
 use Rattle.model.specs.Report.{report}
 use Rattle.model.specs.Schedule.{machine, endState}
 use Rattle.model.specs.Calls.{reportRoom}
@@ -49,10 +49,18 @@ module _ (table : List ℕ) where
   abbrev pub lockerCount : ℕ
   lockerCount = total lockersOf (mutexesOf table) 0
 
-  unfoldable pub reportBound : ℕ
-  reportBound = 33 * actorsOf table + 8 * actionCount + 2 * mailboxesOf table + 2 * postCount + mutexesOf table + lockerCount
+  -- the number of Notes, a Note being the action that adds to the journal: of an actor, and of all
+  abbrev pub notesOf : ℕ → ℕ
+  notesOf a = howMany (λ k. isNote (posts (actionOf table a k))) (countOf table a) 0
 
--- no report passes the table's bound, and the bound of an accepted table does not pass 2,912
+  abbrev pub noteCount : ℕ
+  noteCount = total notesOf (actorsOf table) 0
+
+  unfoldable pub reportBound : ℕ
+  reportBound =
+      33 * actorsOf table + 8 * actionCount + 2 * mailboxesOf table + 2 * postCount + mutexesOf table + lockerCount + 2 + 6 * noteCount
+
+-- no report passes the table's bound, and the bound of an accepted table does not pass 4,450
 pub record ReportsFit (table : List ℕ) : Type 0 where
   pub fits : (schedule : List ℕ) → accepted (machine table) initial schedule ≡ true
       → length (report table (endState table schedule)) ≤ reportBound table

@@ -23,8 +23,8 @@ tableA =
 
 abbrev pub cases : List Claim
 cases =
-    -- (a) the run of 0, 1, 0, 1 has actor 1's cells 2 and 3 at 149 and 1; its report has 100 bytes
-    run tableA (0 ∷ 1 ∷ 0 ∷ 1 ∷ []) ⇒ ran (gives 100)
+    -- (a) the run of 0, 1, 0, 1 has actor 1's cells 2 and 3 at 149 and 1; its report has 102 bytes, two more than document 01 says (W5)
+    run tableA (0 ∷ 1 ∷ 0 ∷ 1 ∷ []) ⇒ ran (gives 102)
     ∷ cell tableA (0 ∷ 1 ∷ 0 ∷ 1 ∷ []) 1 2 ⇒ holds 149
     ∷ cell tableA (0 ∷ 1 ∷ 0 ∷ 1 ∷ []) 1 3 ⇒ holds 1
     -- (b) 1, 1 is refused 13 at 1

@@ -31,11 +31,12 @@ module _ (table : List ℕ) where
   abbrev pub stepName : List ℕ → ℕ → Name
   stepName p k = getD (names (machine table) initial p) k (name 0 0)
 
--- a schedule is accepted and its end is another's: the state, the report, all that a run leaves in any buffer, and the mask, the number ready and
--- the ending
+-- a schedule is accepted and its end is another's: the state, the journal in it, the report, all that a run leaves in any buffer, and the mask, the
+-- number ready and the ending
 pub record EndsAlike (table p q : List ℕ) : Type 0 where
   pub taken : Accepted table q
   pub ends : endState table q ≡ endState table p
+  pub journals : endState table q .journal ≡ endState table p .journal
   pub reports : report table (endState table q) ≡ report table (endState table p)
   pub runs : (buffer : List ℕ) → runOf table q buffer ≡ runOf table p buffer
   pub readies : readyOf table q ≡ readyOf table p

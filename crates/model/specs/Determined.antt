@@ -13,14 +13,15 @@ use Rattle.model.specs.Report.{report}
 use Rattle.model.specs.Schedule.{endState}
 use Rattle.model.specs.Demand3.{Accepted}
 
--- two sites agree in all that the table names: the records of its actors, the communications of its actions, both sides of its mailboxes, and the
--- queues of its mutexes
+-- two sites agree in all that the table names: the records of its actors, the communications of its actions, both sides of its mailboxes, the
+-- queues of its mutexes, and the journal
 pub record SameSite (table : List ℕ) (s t : Site) : Type 0 where
   pub records : (a : ℕ) → a < actorsOf table → s .actor a ≡ t .actor a
   pub communications : (a k : ℕ) → a < actorsOf table → k < countOf table a → s .mail .comm (name a k) ≡ t .mail .comm (name a k)
   pub mailboxes : (m : ℕ) (d : Side) → m < mailboxesOf table
       → s .mail .waiting (record { mailbox = m; side = d }) ≡ t .mail .waiting (record { mailbox = m; side = d })
   pub mutexes : (m : ℕ) → m < mutexesOf table → s .queue m ≡ t .queue m
+  pub journal : s .journal ≡ t .journal
 
 -- the file's elements are bytes
 abbrev pub Bytes : List ℕ → Type 0

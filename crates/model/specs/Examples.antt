@@ -1,4 +1,4 @@
--- Examples of the pair verdict: for each of document 01's four dependence cases, tables in which trading places changes the end report or is
+-- Examples of the pair verdict: for each of the five dependence cases, tables in which trading places changes the end report or is
 -- refused, so that the case is needed; and pairs that look risky and are independent, with both orders ending alike. `proofs/Examples.antt` computes
 -- them.
 -- Assumes nothing: these are definitions.
@@ -22,7 +22,7 @@ sets cell value = 0 ∷ cell ∷ 0 ∷ 0 ∷ long value
 abbrev pub lists : (kind result : ℕ) (numbers : List ℕ) → List ℕ
 lists kind result numbers = kind ∷ result ∷ 0 ∷ length numbers ∷ take 4 (numbers ++ replicate 4 0)
 
--- every communication here goes through mailbox 0 and cell 0, every lock is of mutex 0, and every test and wait lists number 0 alone, with its
+-- every communication here goes through mailbox 0 and cell 0, every lock is of mutex 0, every Note of cell 0, and every test and wait lists number 0 alone, with its
 -- result in cell 1
 abbrev pub send : List ℕ
 send = plain 3 0 0
@@ -47,6 +47,9 @@ mutexTest = lists 9 1 (0 ∷ [])
 
 abbrev pub mutexWait : List ℕ
 mutexWait = lists 10 1 (0 ∷ [])
+
+abbrev pub note : List ℕ
+note = plain 11 0 0
 
 abbrev pub joined : List (List ℕ) → List ℕ
 joined [] = []
@@ -73,7 +76,7 @@ site actors = tableWith 1 1 actors
 abbrev pub two : (first second : List (List ℕ)) → List ℕ
 two first second = site (first ∷ second ∷ [])
 
--- ---- the four cases are needed
+-- ---- the five cases are needed
 
 abbrev pub needed : List Claim
 needed =
@@ -88,7 +91,7 @@ needed =
     ∷ pair (two (send ∷ testAny ∷ []) (receive ∷ [])) (name 0 1) (name 1 0) ⇒ paired (gives dependent)
     ∷ ends (two (send ∷ testAny ∷ []) (receive ∷ [])) (0 ∷ 1 ∷ 0 ∷ []) (0 ∷ 0 ∷ 1 ∷ []) ⇒ ended apart
     ∷ pair (two (receive ∷ waitAny ∷ []) (send ∷ [])) (name 0 1) (name 1 0) ⇒ paired (gives dependent)
-    ∷ run (two (receive ∷ waitAny ∷ []) (send ∷ [])) (0 ∷ 1 ∷ 0 ∷ []) ⇒ ran (gives 93)
+    ∷ run (two (receive ∷ waitAny ∷ []) (send ∷ [])) (0 ∷ 1 ∷ 0 ∷ []) ⇒ ran (gives 95)
     ∷ run (two (receive ∷ waitAny ∷ []) (send ∷ [])) (0 ∷ 0 ∷ 1 ∷ []) ⇒ ran (refuses 13 1)
     -- 3. both Lock: the owner changes
     ∷ pair (two (lock ∷ []) (lock ∷ [])) (name 0 0) (name 1 0) ⇒ paired (gives dependent)
@@ -97,8 +100,11 @@ needed =
     ∷ pair (two (lock ∷ unlock ∷ []) (lock ∷ mutexTest ∷ [])) (name 0 1) (name 1 1) ⇒ paired (gives dependent)
     ∷ ends (two (lock ∷ unlock ∷ []) (lock ∷ mutexTest ∷ [])) (0 ∷ 1 ∷ 0 ∷ 1 ∷ []) (0 ∷ 1 ∷ 1 ∷ 0 ∷ []) ⇒ ended apart
     ∷ pair (two (lock ∷ unlock ∷ []) (lock ∷ mutexWait ∷ [])) (name 0 1) (name 1 1) ⇒ paired (gives dependent)
-    ∷ run (two (lock ∷ unlock ∷ []) (lock ∷ mutexWait ∷ [])) (0 ∷ 1 ∷ 0 ∷ 1 ∷ []) ⇒ ran (gives 102)
+    ∷ run (two (lock ∷ unlock ∷ []) (lock ∷ mutexWait ∷ [])) (0 ∷ 1 ∷ 0 ∷ 1 ∷ []) ⇒ ran (gives 104)
     ∷ run (two (lock ∷ unlock ∷ []) (lock ∷ mutexWait ∷ [])) (0 ∷ 1 ∷ 1 ∷ 0 ∷ []) ⇒ ran (refuses 13 2)
+    -- 5. both Note: the journal's order changes
+    ∷ pair (two (note ∷ []) (note ∷ [])) (name 0 0) (name 1 0) ⇒ paired (gives dependent)
+    ∷ ends (two (note ∷ []) (note ∷ [])) (0 ∷ 1 ∷ []) (1 ∷ 0 ∷ []) ⇒ ended apart
     ∷ []
 
 -- ---- independent, though they look risky
@@ -126,5 +132,29 @@ harmless =
     ∷ ends (two (lock ∷ mutexTest ∷ []) (lock ∷ [])) (0 ∷ 0 ∷ 1 ∷ []) (0 ∷ 1 ∷ 0 ∷ []) ⇒ ended alike
     ∷ []
 
+-- a Note of actor 0, its action 1, after these actions of each actor, against the last of actor 1: independent, and both orders end alike
+abbrev pub noteAgainst : (before : List (List ℕ)) (other : List ℕ) → List Claim
+noteAgainst before other =
+    let table : List ℕ = two (send ∷ note ∷ []) (before ++ (other ∷ [])) in
+    let started : List ℕ = replicate (length before) 1 ++ (0 ∷ []) in
+    pair table (name 0 1) (name 1 (length before)) ⇒ paired (gives independent)
+    ∷ ends table (started ++ (0 ∷ 1 ∷ [])) (started ++ (1 ∷ 0 ∷ [])) ⇒ ended alike
+    ∷ []
+
+-- every kind but a Note itself
+abbrev pub besideNotes : List Claim
+besideNotes =
+    noteAgainst [] (sets 0 7)
+    ++ (noteAgainst [] (plain 1 0 1)
+    ++ (noteAgainst [] (plain 2 0 1)
+    ++ (noteAgainst [] send
+    ++ (noteAgainst [] receive
+    ++ (noteAgainst (receive ∷ []) testAny
+    ++ (noteAgainst (receive ∷ []) waitAny
+    ++ (noteAgainst [] lock
+    ++ (noteAgainst (lock ∷ []) unlock
+    ++ (noteAgainst (lock ∷ []) mutexTest
+    ++ noteAgainst (lock ∷ []) mutexWait)))))))))
+
 abbrev pub examples : List Claim
-examples = needed ++ harmless
+examples = needed ++ (harmless ++ besideNotes)

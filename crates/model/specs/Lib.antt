@@ -1,11 +1,12 @@
--- Document 01 as definitions, in its order: the state, an action's views, stepping, the ready answer, the pair verdict, the state report, and
--- the outcome of each call for every input. Then what is proved of them: the four cases of the pair verdict, demand 3, what holds of every
--- reached state, that a report determines its state, the page's shape, totals that run over, two recordings of one run, and the load that a seed
+-- Document 01 as definitions, in its order, with the requests of document 02: the state, an action's views, stepping, the ready answer, the pair verdict, the state report, and
+-- the outcome of each call for every input. Then what is proved of them: the cases of the pair verdict, demand 3, what holds of every
+-- reached state, that a report determines its state, the journal, the page's shape, totals that run over, two recordings of one run, and the load that a seed
 -- determines.
 pub mod Site
 pub mod Views
 pub mod Mutex
 pub mod Mail
+pub mod Journal
 pub mod Local
 pub mod Step
 pub mod Ready
@@ -20,13 +21,14 @@ pub mod Route
 pub mod Text
 pub mod Page
 pub mod Listing
-pub mod FourCases
+pub mod PairCases
 pub mod ReadyMask
 pub mod Demand3
 pub mod Refusals
 pub mod Bound
 pub mod Reached
 pub mod Determined
+pub mod Journaled
 pub mod PageShape
 pub mod Over
 pub mod RecordingLaws
@@ -41,5 +43,6 @@ pub mod PageExamples
 pub mod OverExamples
 pub mod RecordingExamples
 pub mod DrawExamples
+pub mod JournalExamples
 pub mod Listings
 pub mod Forecourt

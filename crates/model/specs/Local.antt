@@ -1,13 +1,11 @@
 -- What a step sees of the rest of the state, and the local step that its own record takes.
 -- Assumes nothing: these are definitions.
-use Prim.Native.Nat.{ℕ, suc, min}
+use Prim.Native.Nat.{ℕ, suc}
 use mathlib.Core.Bool.{Bool, true, false, cond}
 use mathlib.Core.List.{List, [], _∷_}
-use lib.ListN.{getD, set}
 use Rattle.table.specs.declared.Action.{Action}
-use Rattle.table.specs.declared.Action.the-variants.{Set, Add, Lesser, Send, Receive, TestAny, WaitAny, Lock, Unlock, MutexTest, MutexWait}
 use Rattle.model.specs.Site.{Actor, Site, name}
-use Rattle.model.specs.Views.{Look, blind, communications, mutexes, pickUp, total}
+use Rattle.model.specs.Views.{Look, blind, communications, mutexes, looks, pickUp, written, viewOf}
 use Rattle.model.specs.Mutex.{owns}
 use Rattle.model.specs.Mail.{isDone, carried}
 
@@ -42,19 +40,15 @@ abbrev pub pickUpSeen : (ℕ → Action) → Seen → List ℕ → List ℕ
 pickUpSeen own unseen cells = cells
 pickUpSeen own (seen place number value) cells = pickUp (own number) value cells
 
--- the cells after an action: a Set, Add and Lesser; after a test or wait the place goes into the result cell, which is written last
+-- of a look at communications alone: a mutex that was found has no value
+abbrev pub pickedUp : (ℕ → Action) → Look → Seen → List ℕ → List ℕ
+pickedUp own blind found cells = cells
+pickedUp own (communications l) found cells = pickUpSeen own found cells
+pickedUp own (mutexes l) found cells = cells
+
+-- the cells after an action: what its look found is picked up, and what the step writes is written last
 unfoldable pub cellsAfter : (ℕ → Action) → Action → Seen → List ℕ → List ℕ
-cellsAfter own (Set cell value) found cells = set cells cell value
-cellsAfter own (Add cell other) found cells = set cells cell (total (Add cell other) cells)
-cellsAfter own (Lesser cell other) found cells = set cells cell (min (getD cells cell 0) (getD cells other 0))
-cellsAfter own (Send mailbox cell) found cells = cells
-cellsAfter own (Receive mailbox cell) found cells = cells
-cellsAfter own (TestAny result list) found cells = set (pickUpSeen own found cells) result (placeSeen found)
-cellsAfter own (WaitAny result list) found cells = set (pickUpSeen own found cells) result (placeSeen found)
-cellsAfter own (Lock mutex) found cells = cells
-cellsAfter own (Unlock mutex) found cells = cells
-cellsAfter own (MutexTest result list) found cells = set cells result (placeSeen found)
-cellsAfter own (MutexWait result list) found cells = set cells result (placeSeen found)
+cellsAfter own x found cells = written (viewOf x .writes) (placeSeen found) (pickedUp own (looks x) found cells)
 
 -- the local step of an actor's own record: the next action follows
 abbrev pub local : (ℕ → Action) → Action → Seen → Actor → Actor

@@ -6,7 +6,7 @@ use mathlib.Core.List.{List, [], _∷_, _++_}
 use Rattle.trace.specs.Machine.{Name}
 use Rattle.trace.specs.Order.{eqName}
 use Rattle.model.specs.Site.{upd, Side, sends, receives, Port, opposite, eqPort, Comm, unposted, pending, done, Mail}
-use Rattle.model.specs.Views.{Post, silent, mails, joins, leaves}
+use Rattle.model.specs.Views.{Post, silent, mails, joins, leaves, notes}
 
 abbrev pub isDone : Comm → Bool
 isDone unposted = false
@@ -56,3 +56,4 @@ mailing silent me v m = m
 mailing (mails port) me v m = meet port me v m
 mailing (joins mutex) me v m = m
 mailing (leaves mutex) me v m = m
+mailing notes me v m = m

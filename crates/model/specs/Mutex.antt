@@ -6,7 +6,7 @@ use mathlib.Core.List.{List, [], _∷_, _++_}
 use lib.Dec.{eqb}
 use Rattle.trace.specs.Order.{has}
 use Rattle.model.specs.Site.{upd}
-use Rattle.model.specs.Views.{Post, silent, mails, joins, leaves}
+use Rattle.model.specs.Views.{Post, silent, mails, joins, leaves, notes}
 
 -- the first in the queue owns the mutex
 abbrev pub owns : List ℕ → ℕ → Bool
@@ -28,3 +28,4 @@ queueing silent a f = f
 queueing (mails port) a f = f
 queueing (joins m) a f = upd eqb f m (join (f m) a)
 queueing (leaves m) a f = upd eqb f m (leave (f m) a)
+queueing notes a f = f

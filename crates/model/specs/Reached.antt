@@ -5,14 +5,14 @@ use Prim.Native.Nat.{ℕ, _≤_, _<_}
 use mathlib.Core.Path.{_≡_}
 use mathlib.Core.Logic.{_⊎_, _↔_}
 use mathlib.Core.Bool.{Bool, true, false}
-use mathlib.Core.List.{List, [], _∷_}
+use mathlib.Core.List.{List, [], _∷_, map}
 use lib.ListN.{replicate}
 use Rattle.table.specs.Format.{actorsOf, countOf}
 use Rattle.table.specs.Promise.{isPost}
 use Rattle.trace.specs.Machine.{Name}
 use Rattle.trace.specs.Order.{mem, Distinct, has}
-use Rattle.model.specs.Site.{receives, Port, opposite, Comm, unposted, pending, done, Mail, Site, name}
-use Rattle.model.specs.Views.{Post, mails, joins, posts}
+use Rattle.model.specs.Site.{receives, Port, opposite, Comm, unposted, pending, done, Mail, Entry, Site, name}
+use Rattle.model.specs.Views.{Post, mails, joins, notes, posts}
 use Rattle.model.specs.Step.{actionAt}
 
 abbrev pub isPosted : Comm → Bool
@@ -37,6 +37,10 @@ Once (a ∷ q) = (has q a ≡ false) × Once q
 -- an actor has run a Lock of a mutex
 abbrev pub Locked : List ℕ → Site → ℕ → ℕ → Type 0
 Locked table s m a = (k : ℕ) × (k < s .actor a .position) × (posts (actionAt table (name a k)) ≡ joins m)
+
+-- the names in a journal
+abbrev pub notedIn : List Entry → List Name
+notedIn journal = map (λ e. e .step) journal
 
 -- the mail, where `postOf` says what each step posts
 pub record MailRight (postOf : Name → Post) (m : Mail) : Type 0 where
@@ -64,3 +68,7 @@ pub record Reached (table : List ℕ) (s : Site) : Type 0 where
   -- a mutex's queue names an actor at most once, and each that it names has run a Lock of it
   pub queued-once : (m : ℕ) → Once (s .queue m)
   pub queued-locked : (m a : ℕ) → has (s .queue m) a ≡ true → Locked table s m a
+  -- the journal names each Note below its actor's position once, and nothing else
+  pub noted-below : (x : Name)
+      → (mem x (notedIn (s .journal)) ≡ true) ↔ ((posts (actionAt table x) ≡ notes) × (x .position < s .actor (x .actor) .position))
+  pub noted-once : Distinct (notedIn (s .journal))

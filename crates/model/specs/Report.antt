@@ -5,7 +5,7 @@ use mathlib.Core.List.{List, [], _∷_, _++_}
 use lib.ListN.{length, getD, replicate}
 use Rattle.table.specs.Format.{actorsOf, mailboxesOf, mutexesOf, countOf}
 use Rattle.trace.specs.Machine.{Name}
-use Rattle.model.specs.Site.{Actor, sends, receives, Comm, unposted, pending, done, Site, name}
+use Rattle.model.specs.Site.{Actor, sends, receives, Comm, unposted, pending, done, Entry, Site, name}
 
 -- 16 and 32 bits, the lowest byte first
 abbrev pub word : ℕ → List ℕ
@@ -42,6 +42,15 @@ boxBytes l = word (length l) ++ nameBytes l
 abbrev pub mutexBytes : List ℕ → List ℕ
 mutexBytes l = length l ∷ l
 
+-- the journal's entries, six bytes each: the step's actor and action, and the value
+abbrev pub entryBytes : List Entry → List ℕ
+entryBytes [] = []
+entryBytes (x ∷ l) = (x .step .actor ∷ x .step .position ∷ long (x .value)) ++ entryBytes l
+
+-- the number of entries, 16 bits, and the entries
+abbrev pub journalBytes : List Entry → List ℕ
+journalBytes l = word (length l) ++ entryBytes l
+
 module _ (table : List ℕ) (s : Site) where
   -- a mailbox's queue, oldest first: what is pending on the side that is not empty
   abbrev pub boxQueue : ℕ → List Name
@@ -59,6 +68,6 @@ module _ (table : List ℕ) (s : Site) where
   abbrev pub mutexesPart : List ℕ
   mutexesPart = parts (λ m. mutexBytes (s .queue m)) (mutexesOf table) 0
 
-  -- "state report": the actors, the actions of each, the mailboxes, the mutexes
+  -- "state report": the actors, the actions of each, the mailboxes, the mutexes, the journal
   unfoldable pub report : List ℕ
-  report = actorsPart ++ (actionsPart ++ (boxesPart ++ mutexesPart))
+  report = actorsPart ++ (actionsPart ++ (boxesPart ++ (mutexesPart ++ journalBytes (s .journal))))

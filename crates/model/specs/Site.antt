@@ -1,4 +1,4 @@
--- The state of a site: each actor's record, each communication, what is pending in each mailbox, and each mutex's queue.
+-- The state of a site: each actor's record, each communication, what is pending in each mailbox, each mutex's queue, and the journal.
 -- Names have no bounds here: the state is a function of actors, step names, mailboxes and mutexes, and no step reaches past what the table names.
 -- Assumes nothing: these are definitions.
 use Prim.Native.Nat.{ℕ}
@@ -56,21 +56,29 @@ pub record Mail : Type 0 where
   pub comm : Name → Comm
   pub waiting : Port → List Name
 
+-- an entry of the journal: the name of a Note that was run, and the value that its cell had then
+pub record Entry : Type 0 where
+  pub step : Name
+  pub value : ℕ
+
 pub record Site : Type 0 where
   pub actor : ℕ → Actor
   pub mail : Mail
   -- the actors queued at each mutex: the first owns it
   pub queue : ℕ → List ℕ
+  -- what the Notes have noted, the oldest first
+  pub journal : List Entry
 
 -- the name of action k of an actor
 abbrev pub name : ℕ → ℕ → Name
 name a k = record { actor = a; position = k }
 
--- "fresh site": positions and cells are 0, every action is unposted, every queue is empty
+-- "fresh site": positions and cells are 0, every action is unposted, every queue and the journal are empty
 unfoldable pub initial : Site
 initial =
     record {
       actor = λ a. record { position = 0; cells = replicate 8 0 };
       mail = record { comm = λ x. unposted; waiting = λ p. [] };
       queue = λ m. [];
+      journal = [];
     }

@@ -12,6 +12,7 @@ use Rattle.model.specs.Site.{Site, upd, name}
 use Rattle.model.specs.Views.{posts, looks, waits, sent, runsOver}
 use Rattle.model.specs.Mutex.{queueing}
 use Rattle.model.specs.Mail.{mailing}
+use Rattle.model.specs.Journal.{noting}
 use Rattle.model.specs.Local.{see, isSeen, local}
 
 -- what an actor's next step is: it is taken; it waits for what it looks at; it is an Add whose total would run over
@@ -62,6 +63,7 @@ module _ (table : List ℕ) where
         actor = upd eqb (s .actor) a (local (λ k. actionAt (name a k)) x (see s a (looks x)) (s .actor a));
         mail = mailing (posts x) me (sent x (s .actor a .cells)) (s .mail);
         queue = queueing (posts x) a (s .queue);
+        journal = noting (posts x) me (sent x (s .actor a .cells)) (s .journal);
       }
 
   unfoldable pub step : Site → ℕ → Site

@@ -1,13 +1,13 @@
--- What an action does, one line a kind, so that what follows goes by a few cases and not by eleven kinds: what it posts, what it looks at, whether it
--- waits for what it looks at, the value that it sends, where a value that is picked up goes, and the total that it makes.
+-- What an action does, one line a kind, so that what follows goes by a few cases and not by the kinds: what it posts, what it looks at, whether it
+-- waits for what it looks at, the value that it sends or notes, where a value that is picked up goes, the total that it makes, and what it writes.
 -- Assumes nothing: these are definitions.
-use Prim.Native.Nat.{ℕ, _+_}
+use Prim.Native.Nat.{ℕ, _+_, min}
 use mathlib.Core.Bool.{Bool, true, false}
 use mathlib.Core.List.{List, [], _∷_}
 use lib.Dec.{ltb}
 use lib.ListN.{getD, set, take}
 use Rattle.table.specs.declared.Action.{Action}
-use Rattle.table.specs.declared.Action.the-variants.{Set, Add, Lesser, Send, Receive, TestAny, WaitAny, Lock, Unlock, MutexTest, MutexWait}
+use Rattle.table.specs.declared.Action.the-variants.{Set, Add, Lesser, Send, Receive, TestAny, WaitAny, Lock, Unlock, MutexTest, MutexWait, Note}
 use Rattle.table.specs.declared.Numbers.{Numbers}
 use Rattle.model.specs.Site.{Port, sends, receives}
 
@@ -15,58 +15,83 @@ use Rattle.model.specs.Site.{Port, sends, receives}
 abbrev pub listed : Numbers → List ℕ
 listed l = take (l .count) (l .n0 ∷ l .n1 ∷ l .n2 ∷ l .n3 ∷ [])
 
--- what a step changes besides its own record: nothing; it posts to a port; it joins a mutex's queue, or leaves it
+-- what a step changes besides its own record: nothing; it posts to a port; it joins a mutex's queue, or leaves it; it adds to the journal
 pub data Post : Type 0 where
   silent : Post
   mails : Port → Post
   joins leaves : (mutex : ℕ) → Post
+  notes : Post
 
 -- what a step looks at: nothing; the communications of its own actor's actions; mutexes
 pub data Look : Type 0 where
   blind : Look
   communications mutexes : (list : List ℕ) → Look
 
+-- what is written into the actor's own cells: nothing; or into a cell a value, which a given number and the cells make
+pub data Write : Type 0 where
+  keeps : Write
+  puts : (cell : ℕ) (value : (given : ℕ) (cells : List ℕ) → ℕ) → Write
+
+abbrev pub written : Write → (given : ℕ) (cells : List ℕ) → List ℕ
+written keeps given cells = cells
+written (puts cell value) given cells = set cells cell (value given cells)
+
 pub record View : Type 0 where
   pub post : Post
   pub look : Look
   -- a WaitAny and a MutexWait wait until the look finds something
   pub waiting : Bool
-  -- the value that a Send keeps, from its actor's cells; 0 for the others
+  -- the value that a Send keeps and a Note notes, from its actor's cells; 0 for the others
   pub sent : List ℕ → ℕ
-  -- the cells after the value of this communication was picked up: only a Receive's changes them
-  pub picked : (value : ℕ) (cells : List ℕ) → List ℕ
+  -- what is written when the value of this communication, the number given, is picked up: it goes into a Receive's cell
+  pub picked : Write
   -- the sum that an Add makes of its actor's cells; 0 for the others
   pub total : List ℕ → ℕ
+  -- what the step writes; the number given is the place that its look found, or 0
+  pub writes : Write
 
--- a step that posts and does nothing else; one that adds; one that posts to a port; one that looks
-abbrev pub posting : Post → View
-posting post =
-    record { post = post; look = blind; waiting = false; sent = λ cells. 0; picked = λ value cells. cells; total = λ cells. 0 }
+-- a step that computes a cell of the actor's cells; one that adds
+abbrev pub computing : (cell : ℕ) → (List ℕ → ℕ) → View
+computing cell value =
+    record { post = silent; look = blind; waiting = false; sent = λ cells. 0; picked = keeps; total = λ cells. 0; writes = puts cell (λ given cells. value cells) }
 
-abbrev pub adding : (List ℕ → ℕ) → View
-adding total =
-    record { post = silent; look = blind; waiting = false; sent = λ cells. 0; picked = λ value cells. cells; total = total }
+abbrev pub adding : (cell : ℕ) → (List ℕ → ℕ) → View
+adding cell sum =
+    record { post = silent; look = blind; waiting = false; sent = λ cells. 0; picked = keeps; total = sum; writes = puts cell (λ given cells. sum cells) }
 
-abbrev pub mailTo : Port → (List ℕ → ℕ) → (ℕ → List ℕ → List ℕ) → View
-mailTo port sent picked =
-    record { post = mails port; look = blind; waiting = false; sent = sent; picked = picked; total = λ cells. 0 }
+-- one that posts: a value, where it has one, and where a value that is picked up goes
+abbrev pub posting : Post → (List ℕ → ℕ) → Write → View
+posting post sent picked =
+    record { post = post; look = blind; waiting = false; sent = sent; picked = picked; total = λ cells. 0; writes = keeps }
 
-abbrev pub looking : Look → Bool → View
-looking look waiting =
-    record { post = silent; look = look; waiting = waiting; sent = λ cells. 0; picked = λ value cells. cells; total = λ cells. 0 }
+-- one that looks, and waits or not: the place goes into its result cell
+abbrev pub looking : (result : ℕ) → Look → (waiting : Bool) → View
+looking result look waiting =
+    record { post = silent; look = look; waiting = waiting; sent = λ cells. 0; picked = keeps; total = λ cells. 0; writes = puts result (λ place cells. place) }
+
+abbrev pub sending : ℕ → Post
+sending mailbox = mails (record { mailbox = mailbox; side = sends })
+
+abbrev pub receiving : ℕ → Post
+receiving mailbox = mails (record { mailbox = mailbox; side = receives })
+
+-- what a cell holds
+abbrev pub held : (cell : ℕ) (cells : List ℕ) → ℕ
+held cell cells = getD cells cell 0
 
 abbrev pub viewOf : Action → View
-viewOf (Set cell value) = posting silent
-viewOf (Add cell other) = adding (λ cells. getD cells cell 0 + getD cells other 0)
-viewOf (Lesser cell other) = posting silent
-viewOf (Send mailbox cell) = mailTo (record { mailbox = mailbox; side = sends }) (λ cells. getD cells cell 0) (λ value cells. cells)
-viewOf (Receive mailbox cell) = mailTo (record { mailbox = mailbox; side = receives }) (λ cells. 0) (λ value cells. set cells cell value)
-viewOf (TestAny result list) = looking (communications (listed list)) false
-viewOf (WaitAny result list) = looking (communications (listed list)) true
-viewOf (Lock mutex) = posting (joins mutex)
-viewOf (Unlock mutex) = posting (leaves mutex)
-viewOf (MutexTest result list) = looking (mutexes (listed list)) false
-viewOf (MutexWait result list) = looking (mutexes (listed list)) true
+viewOf (Set cell value) = computing cell (λ cells. value)
+viewOf (Add cell other) = adding cell (λ cells. held cell cells + held other cells)
+viewOf (Lesser cell other) = computing cell (λ cells. min (held cell cells) (held other cells))
+viewOf (Send mailbox cell) = posting (sending mailbox) (held cell) keeps
+viewOf (Receive mailbox cell) = posting (receiving mailbox) (λ cells. 0) (puts cell (λ value cells. value))
+viewOf (TestAny result list) = looking result (communications (listed list)) false
+viewOf (WaitAny result list) = looking result (communications (listed list)) true
+viewOf (Lock mutex) = posting (joins mutex) (λ cells. 0) keeps
+viewOf (Unlock mutex) = posting (leaves mutex) (λ cells. 0) keeps
+viewOf (MutexTest result list) = looking result (mutexes (listed list)) false
+viewOf (MutexWait result list) = looking result (mutexes (listed list)) true
+viewOf (Note cell) = posting notes (held cell) keeps
 
 abbrev pub posts : Action → Post
 posts x = viewOf x .post
@@ -81,7 +106,7 @@ abbrev pub sent : Action → List ℕ → ℕ
 sent x = viewOf x .sent
 
 abbrev pub pickUp : Action → (value : ℕ) (cells : List ℕ) → List ℕ
-pickUp x = viewOf x .picked
+pickUp x = written (viewOf x .picked)
 
 abbrev pub total : Action → List ℕ → ℕ
 total x = viewOf x .total

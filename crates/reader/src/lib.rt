@@ -76,9 +76,9 @@ fn all(t: &[u8], actors: usize, mailboxes: usize, mutexes: usize) -> Reading
 {
     let m = t[2];
     let x = t[3];
-    let limits = [8, 8, 8, m, m, 8, 8, x, x, 8, 8];
-    let seconds = [1, 8, 8, 8, 8, 0, 0, 1, 1, 0, 0];
-    let values = [4294967296, 1, 1, 1, 1, 0, 0, 1, 1, 0, 0];
+    let limits = [8, 8, 8, m, m, 8, 8, x, x, 8, 8, 8];
+    let seconds = [1, 8, 8, 8, 8, 0, 0, 1, 1, 0, 0, 1];
+    let values = [4294967296, 1, 1, 1, 1, 0, 0, 1, 1, 0, 0, 1];
     let mut a = 0;
     while a < actors {
         let first = bytes::word(t, 4 + 4 * a);
@@ -108,9 +108,9 @@ fn own(
     count: usize,
     mailboxes: usize,
     mutexes: usize,
-    limits: &[u8; 11],
-    seconds: &[u8; 11],
-    values: &[usize; 11],
+    limits: &[u8; 12],
+    seconds: &[u8; 12],
+    values: &[usize; 12],
 ) -> Reading
     requires { ⌜ (first + 8 * count ≤ length (now t)) × (mailboxes ≡ mailboxesOf (now t)) × (mutexes ≡ mutexesOf (now t))
         × (length (now t) ≤ tableMost) × (now limits ≡ limitsOf (now t)) × (now seconds ≡ qUnder) × (now values ≡ valueUnder) ⌝ }

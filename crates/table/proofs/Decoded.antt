@@ -5,7 +5,7 @@ use mathlib.Core.List.{List}
 use Prim.Native.Nat.{ℕ, suc, _+_, _-_, _≤_}
 use native.Mathlib.Omega.{arith}
 use lib.ListN.{length, List·getD-eq-default}
-use Rattle.table.specs.declared.Action.the-variants.{MutexWait}
+use Rattle.table.specs.declared.Action.the-variants.{Note}
 use Rattle.table.specs.declared.Numbers.{Numbers}
 use Rattle.table.specs.Format.{byteAt, wordAt, kindAt, pAt}
 use Rattle.table.specs.Decode.{decodeAs, decode, numbersAt}
@@ -22,15 +22,15 @@ module _ (b : List ℕ) where
     pub of-kind : (kind : ℕ) → kindAt b at ≡ kind → decodeAs kind b at ≡ decode b at
     of-kind kind e = ap (λ (k : ℕ). decodeAs k b at) (sym e)
 
-    from-ten : (k : ℕ) → decodeAs (suc (suc (suc (suc (suc (suc (suc (suc (suc (suc k)))))))))) b at ≡ MutexWait (pAt b at) (numbersAt b at)
+    from-eleven : (k : ℕ) → decodeAs (suc (suc (suc (suc (suc (suc (suc (suc (suc (suc (suc k))))))))))) b at ≡ Note (pAt b at)
     unfolding decodeAs
-    from-ten k = refl
+    from-eleven k = refl
 
-    pub last-kind : (kind : ℕ) → 10 ≤ kind → decodeAs kind b at ≡ MutexWait (pAt b at) (numbersAt b at)
+    pub last-kind : (kind : ℕ) → 11 ≤ kind → decodeAs kind b at ≡ Note (pAt b at)
     last-kind kind h =
-        let k : ℕ = kind - 10 in
-        let e : kind ≡ suc (suc (suc (suc (suc (suc (suc (suc (suc (suc k))))))))) = omega arith in
-        ap (λ (n : ℕ). decodeAs n b at) e ∙ from-ten k
+        let k : ℕ = kind - 11 in
+        let e : kind ≡ suc (suc (suc (suc (suc (suc (suc (suc (suc (suc (suc k)))))))))) = omega arith in
+        ap (λ (n : ℕ). decodeAs n b at) e ∙ from-eleven k
 
     pub numbers-of : (z n0 n1 n2 n3 : ℕ) → z ≡ byteAt b (at + 3) → n0 ≡ byteAt b (at + 4) → n1 ≡ byteAt b (at + 5) → n2 ≡ byteAt b (at + 6)
         → n3 ≡ byteAt b (at + 7)

@@ -119,7 +119,8 @@ module _ (b : List ℕ) (actor k : ℕ) where
       (ltb-true _ _ (p-fits (formOf 9) r), all-mutexes (list-fits (formOf 9) r))
   kind-range (suc (suc (suc (suc (suc (suc (suc (suc (suc (suc zero)))))))))) h r =
       (ltb-true _ _ (p-fits (formOf 10) r), all-mutexes (list-fits (formOf 10) r))
-  kind-range (suc (suc (suc (suc (suc (suc (suc (suc (suc (suc (suc kind))))))))))) h r = absurd (omega arith)
+  kind-range (suc (suc (suc (suc (suc (suc (suc (suc (suc (suc (suc zero))))))))))) h r = ltb-true _ _ (p-fits (formOf 11) r)
+  kind-range (suc (suc (suc (suc (suc (suc (suc (suc (suc (suc (suc (suc kind)))))))))))) h r = absurd (omega arith)
 
   checked : checkOf b first k ≡ accepted → InRange b actor k (actionOf b actor k)
   checked right =

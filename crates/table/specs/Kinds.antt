@@ -1,4 +1,4 @@
--- The kinds of action, as document 01's table of kinds has them: what p and q name, and what z and b4 to b7 hold.
+-- The kinds of action, as document 01's table of kinds and the requests of document 02 have them: what p and q name, and what z and b4 to b7 hold.
 -- Assumes nothing.
 use Prim.Native.Nat.{ℕ}
 use mathlib.Core.List.{List, [], _∷_}
@@ -22,7 +22,7 @@ form p q rest = record { p = p; q = q; rest = rest }
 
 -- the last kind's number
 abbrev pub lastKind : ℕ
-lastKind = 10
+lastKind = 11
 
 abbrev pub forms : List Form
 forms =
@@ -37,6 +37,7 @@ forms =
     ∷ form mutex unused nothing  -- 8 Unlock
     ∷ form cell unused mutexes  -- 9 MutexTest
     ∷ form cell unused mutexes  -- 10 MutexWait
+    ∷ form cell unused nothing  -- 11 Note
     ∷ []
 
 abbrev pub formOf : ℕ → Form

@@ -6,7 +6,7 @@ use mathlib.Core.Bool.{Bool, true, false}
 use mathlib.Core.List.{List, [], _∷_}
 use lib.ListN.{length, getD}
 use Rattle.table.specs.declared.Action.{Action}
-use Rattle.table.specs.declared.Action.the-variants.{Set, Add, Lesser, Send, Receive, TestAny, WaitAny, Lock, Unlock, MutexTest, MutexWait}
+use Rattle.table.specs.declared.Action.the-variants.{Set, Add, Lesser, Send, Receive, TestAny, WaitAny, Lock, Unlock, MutexTest, MutexWait, Note}
 use Rattle.table.specs.declared.Numbers.{Numbers}
 use Rattle.table.specs.Format.{actorsOf, mailboxesOf, mutexesOf, offsetOf, countOf}
 use Rattle.table.specs.Decode.{actionOf}
@@ -34,6 +34,7 @@ isPost (Lock mutex) = false
 isPost (Unlock mutex) = false
 isPost (MutexTest result list) = false
 isPost (MutexWait result list) = false
+isPost (Note cell) = false
 
 -- x is a lower Send or Receive of the same actor
 abbrev pub LowerPost : List ℕ → ℕ → ℕ → ℕ → Type 0
@@ -52,6 +53,7 @@ InRange b actor k (Lock mutex) = mutex < mutexesOf b
 InRange b actor k (Unlock mutex) = mutex < mutexesOf b
 InRange b actor k (MutexTest result list) = (result < 8) × Listing (λ m. m < mutexesOf b) list
 InRange b actor k (MutexWait result list) = (result < 8) × Listing (λ m. m < mutexesOf b) list
+InRange b actor k (Note cell) = cell < 8
 
 pub record WellFormed (b : List ℕ) : Type 0 where
   pub actors-least : 1 ≤ actorsOf b

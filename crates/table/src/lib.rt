@@ -29,6 +29,7 @@ pub enum Action {
     Unlock { mutex: usize },
     MutexTest { result: usize, list: Numbers },
     MutexWait { result: usize, list: Numbers },
+    Note { cell: usize },
 }
 
 // What the reader finds: the table is accepted, or the first thing that is wrong, with the offset of the action that it is in.

@@ -59,10 +59,11 @@ fn decode(t: &[u8], at: usize) -> Action
             result: p,
             list: numbers(t, at),
         },
-        _ => Action::MutexWait {
+        10 => Action::MutexWait {
             result: p,
             list: numbers(t, at),
         },
+        _ => Action::Note { cell: p },
     }
 }
 

@@ -3,7 +3,7 @@
 use mathlib.Core.Path.{sym}
 use native.Mathlib.Omega.{arith}
 use Rattle.model.specs.Site.{name}
-use Rattle.model.proofs.FourCases.{depends-own}
+use Rattle.model.proofs.PairCases.{depends-own}
 use Rattle.actions.proofs.ByKind.{kind-under}
 use Rattle.dependence.proofs.CodeLaw.{higher-first, lower-first}
 use Rattle.dependence.proofs.CodeRanges.{own-listed}

@@ -1,7 +1,7 @@
 -- `fields::exact` meets its contract: the kind says which form's checks the answer is to be.
 -- Assumes nothing.
 use mathlib.Core.Path.{_≡_, refl, _∙_, ap, sym}
-use Prim.Native.Nat.{ℕ, _≤_}
+use Prim.Native.Nat.{ℕ, _<_, _≤_}
 use native.Mathlib.Omega.{arith}
 use mathlib.Core.Bool.{_&&_}
 use mathlib.Core.List.{List}
@@ -30,6 +30,9 @@ list-of-mutexes b first k =
 pos : {x : ℕ} → (x ≡ 0 → ⊥) → 1 ≤ x
 pos h = omega arith
 
+past : {x : ℕ} → 11 ≤ x → (x ≡ 11 → ⊥) → 11 < x
+past h other = omega arith
+
 mul-at : tie.Need-mul-at
 mul-at c = search needs
 
@@ -42,6 +45,9 @@ shared-slice-read-kind c = search needs
 set-requires : tie.Need-set-requires
 set-requires c κs = search needs
 
+lone-requires : tie.Need-lone-requires
+lone-requires c κs = search needs
+
 pair-requires : tie.Need-pair-requires
 pair-requires c κs = search needs
 
@@ -51,8 +57,8 @@ pair-requires-2 c κs = search needs
 any-requires : tie.Need-any-requires
 any-requires c κs = search needs
 
-lone-requires : tie.Need-lone-requires
-lone-requires c κs = search needs
+lone-requires-2 : tie.Need-lone-requires-2
+lone-requires-2 c κs = search needs
 
 mutex-any-requires : tie.Need-mutex-any-requires
 mutex-any-requires c κs = search needs
@@ -67,31 +73,36 @@ returns c =
 
 returns-2 : tie.Need-returns-2
 returns-2 c =
-    let a = c .before .before .before .before .before .args in
-    c .pair .ensures ∙ sym (two-kinds (a .t .now) (a .first) (a .k) 1 (pos (c .before .before .match .rest .1)) (c .before .if1 .taken)
-    (lit< tt) refl)
+    let a = c .before .before .before .before .args in
+    c .lone .ensures ∙ sym (one-kind (a .t .now) (a .first) (a .k) 11 (c .before .match .keys2) (lit≤ tt))
 
 returns-3 : tie.Need-returns-3
 returns-3 c =
+    let a = c .before .before .before .before .before .args in
+    c .pair .ensures ∙ sym (two-kinds (a .t .now) (a .first) (a .k) 1 (pos (c .before .before .match .rest .0 .1)) (c .before .if1 .taken)
+    (lit< tt) refl)
+
+returns-4 : tie.Need-returns-4
+returns-4 c =
     let a = c .before .before .before .before .before .before .args in
     c .pair2 .ensures
     ∙ ap (twoFieldsOf (a .t .now) (placeOf (a .first) (a .k))) (c .before .before .before .before .before .before .pre .1)
     ∙ sym (two-kinds (a .t .now) (a .first) (a .k) 3 (c .before .before .if1 .left) (c .before .if2 .taken) (lit< tt) refl)
 
-returns-4 : tie.Need-returns-4
-returns-4 c =
+returns-5 : tie.Need-returns-5
+returns-5 c =
     let a = c .before .before .before .before .before .before .before .args in
     c .any .ensures ∙ sym (two-kinds (a .t .now) (a .first) (a .k) 5 (c .before .before .if2 .left) (c .before .if3 .taken) (lit< tt) refl)
 
-returns-5 : tie.Need-returns-5
-returns-5 c =
+returns-6 : tie.Need-returns-6
+returns-6 c =
     let a = c .before .before .before .before .before .before .before .before .args in
-    c .lone .ensures
+    c .lone2 .ensures
     ∙ ap (loneOf (a .t .now) (placeOf (a .first) (a .k))) (c .before .before .before .before .before .before .before .before .pre .2)
     ∙ sym (two-kinds (a .t .now) (a .first) (a .k) 7 (c .before .before .if3 .left) (c .before .if4 .taken) (lit< tt) refl)
 
-returns-6 : tie.Need-returns-6
-returns-6 c =
+returns-7 : tie.Need-returns-7
+returns-7 c =
     let a = c .before .before .before .before .before .before .before .before .before .args in
     c .mutex-any .ensures
     ∙ ap (λ (limit : ℕ). listOf (a .t .now) (placeOf (a .first) (a .k)) (allBelow (a .t .now) (placeOf (a .first) (a .k)) limit))
@@ -99,9 +110,9 @@ returns-6 c =
     ∙ list-of-mutexes (a .t .now) (a .first) (a .k)
     ∙ sym (two-kinds (a .t .now) (a .first) (a .k) 9 (c .before .before .if4 .left) (c .before .if5 .taken) (lit< tt) refl)
 
-returns-7 : tie.Need-returns-7
-returns-7 c =
-    let a = c .before .before .before .before .before .before .before .before .args in no-kind (a .t .now) (a .first) (a .k) (c .if5 .left)
+returns-8 : tie.Need-returns-8
+returns-8 c =
+    let a = c .before .before .before .before .before .before .before .before .args in no-kind (a .t .now) (a .first) (a .k) (past (c .if5 .left) (c .before .before .before .before .before .match .rest .1))
 
 pub exact-spec : {M : Type 1} → statement M
 exact-spec =
@@ -111,10 +122,11 @@ exact-spec =
     add-at
     shared-slice-read-kind
     set-requires
+    lone-requires
     pair-requires
     pair-requires-2
     any-requires
-    lone-requires
+    lone-requires-2
     mutex-any-requires
     cast-t13
     returns
@@ -123,4 +135,5 @@ exact-spec =
     returns-4
     returns-5
     returns-6
-    returns-7)
+    returns-7
+    returns-8)

@@ -4,7 +4,7 @@ use mathlib.Core.Path.{_≡_, _∙_, ap, ap₂, sym}
 use Prim.Native.Nat.{ℕ, suc, _≤_}
 use native.Mathlib.Omega.{arith}
 use borrow.Author.Needs.{zero≤}
-use Rattle.table.specs.declared.Action.the-variants.{Set, Add, Lesser, Send, Receive, TestAny, WaitAny, Lock, Unlock, MutexTest, MutexWait}
+use Rattle.table.specs.declared.Action.the-variants.{Set, Add, Lesser, Send, Receive, TestAny, WaitAny, Lock, Unlock, MutexTest, MutexWait, Note}
 use Rattle.table.specs.Decode.{decodeAs}
 use Rattle.table.proofs.Decoded.{of-kind, last-kind}
 use borrow.Author.Needs.{needs}
@@ -135,22 +135,29 @@ returns-10 c =
     ap₂ MutexTest (c .before .before .byte2 .ensures .0) (c .numbers3 .ensures)
     ∙ of-kind (a .t .now) (a .at) 9 (sym (c .before .before .before .byte .ensures .0) ∙ c .before .match .keys10)
 
-above : (c : tie.After-numbers4) → 10 ≤ c .before .before .before .byte .result
-above c =
-    let other = c .before .match .rest in
-    let six : 6 ≤ c .before .before .before .byte .result =
-    next
-    (next (next (next (next (next zero≤ (other .0 .0 .0 .0 .0 .0 .0 .0 .0 .1)) (other .0 .0 .0 .0 .0 .0 .0 .0 .1))
-    (other .0 .0 .0 .0 .0 .0 .0 .1)) (other .0 .0 .0 .0 .0 .0 .1)) (other .0 .0 .0 .0 .0 .1))
-    (other .0 .0 .0 .0 .1) in
-    next (next (next (next six (other .0 .0 .0 .1)) (other .0 .0 .1)) (other .0 .1)) (other .1)
-
 returns-11 : tie.Need-returns-11
+unfolding decodeAs
 returns-11 c =
     let a = c .before .before .before .before .before .args in
     ap₂ MutexWait (c .before .before .byte2 .ensures .0) (c .numbers4 .ensures)
+    ∙ of-kind (a .t .now) (a .at) 10 (sym (c .before .before .before .byte .ensures .0) ∙ c .before .match .keys11)
+
+above : (c : tie.At-match-rest) → 11 ≤ c .before .before .byte .result
+above c =
+    let other = c .match .rest in
+    let six : 6 ≤ c .before .before .byte .result =
+    next
+    (next (next (next (next (next zero≤ (other .0 .0 .0 .0 .0 .0 .0 .0 .0 .0 .1)) (other .0 .0 .0 .0 .0 .0 .0 .0 .0 .1))
+    (other .0 .0 .0 .0 .0 .0 .0 .0 .1)) (other .0 .0 .0 .0 .0 .0 .0 .1)) (other .0 .0 .0 .0 .0 .0 .1))
+    (other .0 .0 .0 .0 .0 .1) in
+    next (next (next (next (next six (other .0 .0 .0 .0 .1)) (other .0 .0 .0 .1)) (other .0 .0 .1)) (other .0 .1)) (other .1)
+
+returns-12 : tie.Need-returns-12
+returns-12 c =
+    let a = c .before .before .before .before .args in
+    ap Note (c .before .byte2 .ensures .0)
     ∙ sym (last-kind (a .t .now) (a .at) _ (above c))
-    ∙ of-kind (a .t .now) (a .at) _ (sym (c .before .before .before .byte .ensures .0))
+    ∙ of-kind (a .t .now) (a .at) _ (sym (c .before .before .byte .ensures .0))
 
 pub decode-spec : {M : Type 1} → statement M
 decode-spec =
@@ -183,4 +190,5 @@ decode-spec =
     returns-8
     returns-9
     returns-10
-    returns-11)
+    returns-11
+    returns-12)

@@ -1,4 +1,4 @@
--- The pair verdict is exactly document 01's four cases, besides two steps of one actor; so it is symmetric.
+-- The pair verdict is exactly the cases of `specs/PairCases.antt`, besides two steps of one actor; so it is symmetric.
 -- Assumes nothing of the table.
 use Prim.Native.Nat.{ℕ}
 use mathlib.Core.Path.{_≡_, refl, sym, _∙_, ap}
@@ -8,72 +8,21 @@ use mathlib.Core.List.{List, [], _∷_}
 use lib.Dec.{eqb}
 use borrow.Author.Tests.{eqb-true, eq-eqb}
 use Rattle.table.specs.declared.Action.{Action}
-use Rattle.table.specs.declared.Action.the-variants.{Set, Add, Lesser, Send, Receive, TestAny, WaitAny, Lock, Unlock, MutexTest, MutexWait}
+use Rattle.table.specs.declared.Action.the-variants.{Send, Receive, Lock, Note}
 use Rattle.table.specs.declared.Numbers.{Numbers}
 use Rattle.trace.specs.Machine.{Name}
 use Rattle.trace.specs.Order.{has}
 use Rattle.trace.proofs.Bools.{which, contrary, is-false, or-left, or-right, or-cases}
 use Rattle.model.specs.Site.{Side, sends, receives, Port, opposite, name}
-use Rattle.model.specs.Views.{Post, silent, mails, joins, leaves, posts, blind, communications, mutexes, looks, listed}
+use Rattle.model.specs.Views.{Post, silent, mails, joins, leaves, notes, posts, communications, mutexes, listed}
 use Rattle.model.specs.Step.{actionAt}
-use Rattle.model.specs.Pair.{isMail, isJoin, competes, answers, anyOf, meets, postAt, sees, depends}
-use Rattle.model.specs.FourCases.{TestOrWait, MutexTestOrWait, Case, both-send, both-receive, lists-receive, lists-send, both-lock, lists-mutex, DependentCase, one-actor, straight, turned, FourCases}
+use Rattle.model.specs.Pair.{isMail, isJoin, isNote, competes, answers, anyOf, meets, postAt, sees, depends}
+use Rattle.model.specs.PairCases.{TestOrWait, MutexTestOrWait, Case, both-send, both-receive, lists-receive, lists-send, both-lock, lists-mutex, both-note, DependentCase, one-actor, straight, turned, PairCases}
 use Rattle.model.proofs.Upd.{test-symmetric}
 use Rattle.model.proofs.Ports.{number-test, port-test}
+use Rattle.model.proofs.ByKind.{Posting, quiet, sends-to, receives-from, locks, unlocks, writes-down, posting, Looking, blindly, testing, mutex-testing, looking, test-looks, mutex-looks}
 
--- ---- an action by what it posts, and by what it looks at
-
-data Posting (x : Action) : Type 0 where
-  quiet : posts x ≡ silent → Posting x
-  sending : (mailbox cell : ℕ) → x ≡ Send mailbox cell → Posting x
-  receiving : (mailbox cell : ℕ) → x ≡ Receive mailbox cell → Posting x
-  locking : (mutex : ℕ) → x ≡ Lock mutex → Posting x
-  unlocking : (mutex : ℕ) → x ≡ Unlock mutex → Posting x
-
-posting : (x : Action) → Posting x
-posting (Set cell value) = quiet refl
-posting (Add cell other) = quiet refl
-posting (Lesser cell other) = quiet refl
-posting (Send mailbox cell) = sending mailbox cell refl
-posting (Receive mailbox cell) = receiving mailbox cell refl
-posting (TestAny result list) = quiet refl
-posting (WaitAny result list) = quiet refl
-posting (Lock mutex) = locking mutex refl
-posting (Unlock mutex) = unlocking mutex refl
-posting (MutexTest result list) = quiet refl
-posting (MutexWait result list) = quiet refl
-
-data Looking (x : Action) : Type 0 where
-  blindly : looks x ≡ blind → Looking x
-  testing : (list : Numbers) → TestOrWait x list → Looking x
-  mutex-testing : (list : Numbers) → MutexTestOrWait x list → Looking x
-
-looking : (x : Action) → Looking x
-looking (Set cell value) = blindly refl
-looking (Add cell other) = blindly refl
-looking (Lesser cell other) = blindly refl
-looking (Send mailbox cell) = blindly refl
-looking (Receive mailbox cell) = blindly refl
-looking (TestAny result list) = testing list (result, inl refl)
-looking (WaitAny result list) = testing list (result, inr refl)
-looking (Lock mutex) = blindly refl
-looking (Unlock mutex) = blindly refl
-looking (MutexTest result list) = mutex-testing list (result, inl refl)
-looking (MutexWait result list) = mutex-testing list (result, inr refl)
-
-test-looks : (x : Action) (list : Numbers) → TestOrWait x list → looks x ≡ communications (listed list)
-test-looks x list w = go (w .1)
-  where
-    go : (x ≡ TestAny (w .0) list) ⊎ (x ≡ WaitAny (w .0) list) → looks x ≡ communications (listed list)
-    go (inl e) = ap looks e
-    go (inr e) = ap looks e
-
-mutex-looks : (x : Action) (list : Numbers) → MutexTestOrWait x list → looks x ≡ mutexes (listed list)
-mutex-looks x list w = go (w .1)
-  where
-    go : (x ≡ MutexTest (w .0) list) ⊎ (x ≡ MutexWait (w .0) list) → looks x ≡ mutexes (listed list)
-    go (inl e) = ap looks e
-    go (inr e) = ap looks e
+-- ---- the action of a post
 
 abbrev side-action : Side → ℕ → ℕ → Action
 side-action sends mailbox cell = Send mailbox cell
@@ -84,21 +33,31 @@ abbrev on : Port → ℕ → Action
 on p cell = side-action (p .side) (p .mailbox) cell
 
 mail-action : (x : Action) (p : Port) → Posting x → isMail (posts x) p ≡ true → (cell : ℕ) × (x ≡ on p cell)
-mail-action x p (quiet e) h = absurd (false≢true (rw e at h))
-mail-action x p (sending m c e) h = (c, e ∙ ap (λ (q : Port). on q c) (port-test .equal (record { mailbox = m; side = sends }) p (rw e at h)))
-mail-action x p (receiving m c e) h = (c, e ∙ ap (λ (q : Port). on q c) (port-test .equal (record { mailbox = m; side = receives }) p (rw e at h)))
-mail-action x p (locking m e) h = absurd (false≢true (rw e at h))
-mail-action x p (unlocking m e) h = absurd (false≢true (rw e at h))
+mail-action x p (quiet q) h = absurd (false≢true (rw (q .posts-none) at h))
+mail-action x p (sends-to m c e) h = (c, e ∙ ap (λ (q : Port). on q c) (port-test .equal (record { mailbox = m; side = sends }) p (rw e at h)))
+mail-action x p (receives-from m c e) h = (c, e ∙ ap (λ (q : Port). on q c) (port-test .equal (record { mailbox = m; side = receives }) p (rw e at h)))
+mail-action x p (locks m e) h = absurd (false≢true (rw e at h))
+mail-action x p (unlocks m e) h = absurd (false≢true (rw e at h))
+mail-action x p (writes-down c e) h = absurd (false≢true (rw e at h))
 
 pub answers-opposite : (p : Port) → answers (mails (opposite p)) p ≡ true
 answers-opposite p = rw (port-test .same (opposite p))
 
 join-action : (x : Action) (m : ℕ) → Posting x → isJoin (posts x) m ≡ true → x ≡ Lock m
-join-action x m (quiet e) h = absurd (false≢true (rw e at h))
-join-action x m (sending n c e) h = absurd (false≢true (rw e at h))
-join-action x m (receiving n c e) h = absurd (false≢true (rw e at h))
-join-action x m (locking n e) h = e ∙ ap Lock (eqb-true n m (rw e at h))
-join-action x m (unlocking n e) h = absurd (false≢true (rw e at h))
+join-action x m (quiet q) h = absurd (false≢true (rw (q .posts-none) at h))
+join-action x m (sends-to n c e) h = absurd (false≢true (rw e at h))
+join-action x m (receives-from n c e) h = absurd (false≢true (rw e at h))
+join-action x m (locks n e) h = e ∙ ap Lock (eqb-true n m (rw e at h))
+join-action x m (unlocks n e) h = absurd (false≢true (rw e at h))
+join-action x m (writes-down c e) h = absurd (false≢true (rw e at h))
+
+pub note-action : (x : Action) → Posting x → isNote (posts x) ≡ true → (cell : ℕ) × (x ≡ Note cell)
+note-action x (quiet q) h = absurd (false≢true (rw (q .posts-none) at h))
+note-action x (sends-to m c e) h = absurd (false≢true (rw e at h))
+note-action x (receives-from m c e) h = absurd (false≢true (rw e at h))
+note-action x (locks m e) h = absurd (false≢true (rw e at h))
+note-action x (unlocks m e) h = absurd (false≢true (rw e at h))
+note-action x (writes-down c e) h = (c, e)
 
 -- ---- some number of a list
 
@@ -142,20 +101,23 @@ module _ (table : List ℕ) (x y : Name) where
       inr (lists-sees list k (record { mailbox = mailbox; side = receives }) w m (ap posts own) (ap posts e))
   case-tests (both-lock mutex e f) = inl (rw (e, f) (eq-eqb mutex mutex refl))
   case-tests (lists-mutex list mutex w m e) = inr (rw (mutex-looks (actionAt table x) list w, e) m)
+  case-tests (both-note cell other e f) = inl (rw (e, f))
 
 -- ---- a dependent pair is in a case
 
 module _ (table : List ℕ) (x y : Name) where
   competing : Posting (actionAt table x) → competes (posts (actionAt table x)) (posts (actionAt table y)) ≡ true → Case table x y
-  competing (quiet e) h = absurd (false≢true (rw e at h))
-  competing (sending m c e) h =
+  competing (quiet q) h = absurd (false≢true (rw (q .posts-none) at h))
+  competing (sends-to m c e) h =
       let r = mail-action (actionAt table y) (record { mailbox = m; side = sends }) (posting (actionAt table y)) (rw e at h) in
       both-send m c (r .0) e (r .1)
-  competing (receiving m c e) h =
+  competing (receives-from m c e) h =
       let r = mail-action (actionAt table y) (record { mailbox = m; side = receives }) (posting (actionAt table y)) (rw e at h) in
       both-receive m c (r .0) e (r .1)
-  competing (locking m e) h = both-lock m e (join-action (actionAt table y) m (posting (actionAt table y)) (rw e at h))
-  competing (unlocking m e) h = absurd (false≢true (rw e at h))
+  competing (locks m e) h = both-lock m e (join-action (actionAt table y) m (posting (actionAt table y)) (rw e at h))
+  competing (unlocks m e) h = absurd (false≢true (rw e at h))
+  competing (writes-down c e) h =
+      let r = note-action (actionAt table y) (posting (actionAt table y)) (rw e at h) in both-note c (r .0) e (r .1)
 
   -- a listed communication of x's actor that is on a port
   listed-on : (list : Numbers) (p : Port) → anyOf (λ k. isMail (postAt table (x .actor) k) p) (listed list) ≡ true
@@ -168,21 +130,23 @@ module _ (table : List ℕ) (x y : Name) where
 
   tests : (list : Numbers) → TestOrWait (actionAt table x) list → Posting (actionAt table y)
       → meets (postAt table (x .actor)) (communications (listed list)) (posts (actionAt table y)) ≡ true → Case table x y
-  tests list w (quiet e) h = absurd (false≢true (rw e at h))
-  tests list w (sending m c e) h =
+  tests list w (quiet q) h = absurd (false≢true (rw (q .posts-none) at h))
+  tests list w (sends-to m c e) h =
       let r = listed-on list (record { mailbox = m; side = receives }) (rw e at h) in lists-receive list (r .0) m (r .1) c w (r .2) (r .3) e
-  tests list w (receiving m c e) h =
+  tests list w (receives-from m c e) h =
       let r = listed-on list (record { mailbox = m; side = sends }) (rw e at h) in lists-send list (r .0) m (r .1) c w (r .2) (r .3) e
-  tests list w (locking m e) h = absurd (false≢true (rw e at h))
-  tests list w (unlocking m e) h = absurd (false≢true (rw e at h))
+  tests list w (locks m e) h = absurd (false≢true (rw e at h))
+  tests list w (unlocks m e) h = absurd (false≢true (rw e at h))
+  tests list w (writes-down c e) h = absurd (false≢true (rw e at h))
 
   mutex-tests : (list : Numbers) → MutexTestOrWait (actionAt table x) list → Posting (actionAt table y)
       → meets (postAt table (x .actor)) (mutexes (listed list)) (posts (actionAt table y)) ≡ true → Case table x y
-  mutex-tests list w (quiet e) h = absurd (false≢true (rw e at h))
-  mutex-tests list w (sending m c e) h = absurd (false≢true (rw e at h))
-  mutex-tests list w (receiving m c e) h = absurd (false≢true (rw e at h))
-  mutex-tests list w (locking m e) h = absurd (false≢true (rw e at h))
-  mutex-tests list w (unlocking m e) h = lists-mutex list m w (rw e at h) e
+  mutex-tests list w (quiet q) h = absurd (false≢true (rw (q .posts-none) at h))
+  mutex-tests list w (sends-to m c e) h = absurd (false≢true (rw e at h))
+  mutex-tests list w (receives-from m c e) h = absurd (false≢true (rw e at h))
+  mutex-tests list w (locks m e) h = absurd (false≢true (rw e at h))
+  mutex-tests list w (unlocks m e) h = lists-mutex list m w (rw e at h) e
+  mutex-tests list w (writes-down c e) h = absurd (false≢true (rw e at h))
 
   seeing : Looking (actionAt table x) → sees table x y ≡ true → Case table x y
   seeing (blindly e) h = absurd (false≢true (rw e at h))
@@ -194,22 +158,31 @@ competes-symmetric silent silent = refl
 competes-symmetric silent (mails Q) = refl
 competes-symmetric silent (joins n) = refl
 competes-symmetric silent (leaves n) = refl
+competes-symmetric silent notes = refl
 competes-symmetric (mails P) silent = refl
 competes-symmetric (mails P) (mails Q) = test-symmetric port-test Q P
 competes-symmetric (mails P) (joins n) = refl
 competes-symmetric (mails P) (leaves n) = refl
+competes-symmetric (mails P) notes = refl
 competes-symmetric (joins m) silent = refl
 competes-symmetric (joins m) (mails Q) = refl
 competes-symmetric (joins m) (joins n) = test-symmetric number-test n m
 competes-symmetric (joins m) (leaves n) = refl
+competes-symmetric (joins m) notes = refl
 competes-symmetric (leaves m) silent = refl
 competes-symmetric (leaves m) (mails Q) = refl
 competes-symmetric (leaves m) (joins n) = refl
 competes-symmetric (leaves m) (leaves n) = refl
+competes-symmetric (leaves m) notes = refl
+competes-symmetric notes silent = refl
+competes-symmetric notes (mails Q) = refl
+competes-symmetric notes (joins n) = refl
+competes-symmetric notes (leaves n) = refl
+competes-symmetric notes notes = refl
 
-pub four-cases : (table : List ℕ) → FourCases table
+pub pair-cases : (table : List ℕ) → PairCases table
 unfolding depends
-four-cases table x y = (found, given)
+pair-cases table x y = (found, given)
   where
     look : (sees table x y ≡ true) ⊎ (sees table y x ≡ true) → DependentCase table x y
     look (inl h) = straight (seeing table x y (looking (actionAt table x)) h)
@@ -246,7 +219,7 @@ four-cases table x y = (found, given)
 -- ---- hence two laws of the verdict
 
 pub depends-own : (table : List ℕ) (x y : Name) → x .actor ≡ y .actor → depends table x y ≡ true
-depends-own table x y e = four-cases table x y .1 (one-actor e)
+depends-own table x y e = pair-cases table x y .1 (one-actor e)
 
 turn : (table : List ℕ) (x y : Name) → DependentCase table x y → DependentCase table y x
 turn table x y (one-actor e) = one-actor (sym e)
@@ -257,7 +230,7 @@ pub depends-symmetric : (table : List ℕ) (x y : Name) → depends table x y �
 depends-symmetric table x y = go (which (depends table x y))
   where
     other-way : (z t : Name) → depends table z t ≡ true → depends table t z ≡ true
-    other-way z t h = four-cases table t z .1 (turn table z t (four-cases table z t .0 h))
+    other-way z t h = pair-cases table t z .1 (turn table z t (pair-cases table z t .0 h))
 
     go : (depends table x y ≡ true) ⊎ (depends table x y ≡ false) → depends table x y ≡ depends table y x
     go (inl t) = t ∙ sym (other-way x y t)

@@ -1,5 +1,5 @@
--- The four cases of the pair verdict, in document 01's words: `proofs/FourCases.antt` proves that two steps are dependent exactly when they are of
--- one actor or in one of these cases.
+-- The cases of the pair verdict, in the words of document 01, which has four, and of document 02 (W5): `proofs/PairCases.antt` proves that two steps
+-- are dependent exactly when they are of one actor or in one of these cases.
 -- Assumes nothing: these are definitions.
 use Prim.Native.Nat.{ℕ}
 use mathlib.Core.Path.{_≡_}
@@ -7,7 +7,7 @@ use mathlib.Core.Logic.{_⊎_, _↔_}
 use mathlib.Core.Bool.{true}
 use mathlib.Core.List.{List}
 use Rattle.table.specs.declared.Action.{Action}
-use Rattle.table.specs.declared.Action.the-variants.{Send, Receive, TestAny, WaitAny, Lock, Unlock, MutexTest, MutexWait}
+use Rattle.table.specs.declared.Action.the-variants.{Send, Receive, TestAny, WaitAny, Lock, Unlock, MutexTest, MutexWait, Note}
 use Rattle.table.specs.declared.Numbers.{Numbers}
 use Rattle.trace.specs.Machine.{Name}
 use Rattle.trace.specs.Order.{has}
@@ -42,6 +42,8 @@ pub data Case (table : List ℕ) (x y : Name) : Type 0 where
   -- 4. a MutexTest or MutexWait lists a mutex and the other is an Unlock of it
   lists-mutex : (list : Numbers) (mutex : ℕ) → MutexTestOrWait (actionAt table x) list → Lists list mutex → actionAt table y ≡ Unlock mutex
       → Case table x y
+  -- 5. both Note
+  both-note : (cell other : ℕ) → actionAt table x ≡ Note cell → actionAt table y ≡ Note other → Case table x y
 
 -- two steps of one actor; or a case, with either as the one that it names first
 pub data DependentCase (table : List ℕ) (x y : Name) : Type 0 where
@@ -50,5 +52,5 @@ pub data DependentCase (table : List ℕ) (x y : Name) : Type 0 where
   turned : Case table y x → DependentCase table x y
 
 -- these cases, and no other
-abbrev pub FourCases : List ℕ → Type 0
-FourCases table = (x y : Name) → (depends table x y ≡ true) ↔ DependentCase table x y
+abbrev pub PairCases : List ℕ → Type 0
+PairCases table = (x y : Name) → (depends table x y ≡ true) ↔ DependentCase table x y
