@@ -1,14 +1,14 @@
 -- The journal at given inputs (document 02, W5): the value is that of the moment, the order is that of the run; which tables with a Note are refused;
--- and the largest journal. `proofs/JournalExamples.antt` computes them.
+-- and how long a journal is in the report. `proofs/JournalExamples.antt` computes them.
 -- Assumes nothing: these are definitions.
 use Prim.Native.Nat.{ℕ}
-use mathlib.Core.List.{List, [], _∷_, _++_, map}
+use mathlib.Core.List.{List, [], _∷_, _++_}
 use lib.ListN.{replicate, set}
 use Rattle.table.specs.Outcome.{accepted, refused}
 use Rattle.model.specs.Site.{Entry, name}
 use Rattle.model.specs.Calls.{gives, refuses, same, different}
 use Rattle.model.specs.Claims.{Claim, _⇒_, read, runIn, run, journal, areSame, outcome, ran, entries, judged}
-use Rattle.model.specs.Examples.{plain, sets, lists, send, receive, waitAny, note, joined, tableWith, site, two}
+use Rattle.model.specs.Examples.{plain, sets, lists, send, receive, waitAny, note, tableWith, site, two}
 
 abbrev pub entry : (actor action value : ℕ) → Entry
 entry actor action value = record { step = name actor action; value = value }
@@ -61,22 +61,19 @@ readings =
     ∷ read (site ((note ∷ lists 5 1 (0 ∷ []) ∷ []) ∷ [])) ⇒ outcome (refused 8 16)
     ∷ []
 
--- ---- the largest journal
+-- ---- six bytes an entry, and two for their number
 
--- eight actors with 32 Notes each, eight mailboxes and eight mutexes
+-- one actor with 32 Notes
 abbrev pub allNotes : List ℕ
-allNotes = tableWith 8 8 (replicate 8 (replicate 32 note))
+allNotes = tableWith 0 0 (replicate 32 note ∷ [])
 
--- each actor in turn, whole
-abbrev pub allOrder : List ℕ
-allOrder = joined (map (replicate 32) (0 ∷ 1 ∷ 2 ∷ 3 ∷ 4 ∷ 5 ∷ 6 ∷ 7 ∷ []))
-
-abbrev pub largestJournal : List Claim
-largestJournal =
+abbrev pub lengths : List Claim
+lengths =
     runIn 4449 allNotes [] ⇒ ran (refuses 10 0)
-    ∷ run allNotes [] ⇒ ran (gives 2338)
-    ∷ run allNotes allOrder ⇒ ran (gives 3874)
+    ∷ run allNotes [] ⇒ ran (gives 291)
+    ∷ run allNotes (0 ∷ []) ⇒ ran (gives 297)
+    ∷ run allNotes (replicate 32 0) ⇒ ran (gives 483)
     ∷ []
 
 abbrev pub journals : List Claim
-journals = kept ++ (readings ++ largestJournal)
+journals = kept ++ (readings ++ lengths)
