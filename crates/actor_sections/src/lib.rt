@@ -11,32 +11,6 @@ ghost use Rattle.actor_sections.specs.Parts.{actorsBytes, ownBytes, acti
 use state::Actor;
 use table::access;
 
-// Four bytes.
-fn four(a: u8, b: u8, c: u8, d: u8, buf: &mut [u8]) -> usize
-    requires { ⌜ 4 ≤ length (now buf) ⌝ }
-    ensures { λ r. ⌜ Wrote (now (buf .entry)) (a ∷ b ∷ c ∷ d ∷ []) (now (buf .exit)) r ⌝ }
-{
-    buf[0] = a;
-    buf[1] = b;
-    buf[2] = c;
-    buf[3] = d;
-    4
-}
-
-// 32 bits, the lowest byte first.
-fn number(x: u32, buf: &mut [u8]) -> usize
-    requires { ⌜ 4 ≤ length (now buf) ⌝ }
-    ensures { λ r. ⌜ Wrote (now (buf .entry)) (long x) (now (buf .exit)) r ⌝ }
-{
-    four(
-        (x % 256) as u8,
-        (x / 256 % 256) as u8,
-        (x / 65536 % 256) as u8,
-        (x / 16777216 % 256) as u8,
-        buf,
-    )
-}
-
 // An actor's cells, four bytes each.
 fn cells_part(cells: [u32; 8], buf: &mut [u8]) -> usize
     requires { ⌜ 32 ≤ length (now buf) ⌝ }
@@ -46,7 +20,7 @@ fn cells_part(cells: [u32; 8], buf: &mut [u8]) -> usize
     let mut c = 0;
     while c < 8 {
         let x = cells[c];
-        at += number(x, &mut buf[at..]);
+        at += writing::number(x, &mut buf[at..]);
         c += 1;
     }
     at
@@ -83,8 +57,8 @@ fn entry(state: u8, actor: u8, action: u8, value: u32, buf: &mut [u8]) -> usize
     requires { ⌜ 8 ≤ length (now buf) ⌝ }
     ensures { λ r. ⌜ Wrote (now (buf .entry)) (state ∷ actor ∷ action ∷ 0 ∷ long value) (now (buf .exit)) r ⌝ }
 {
-    let at = four(state, actor, action, 0, buf);
-    at + number(value, &mut buf[at..])
+    let at = writing::four(state, actor, action, 0, buf);
+    at + writing::number(value, &mut buf[at..])
 }
 
 // A communication, from the number that holds it.

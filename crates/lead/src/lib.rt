@@ -6,8 +6,8 @@ ghost use lib.Count.{ones};
 ghost use Rattle.table.specs.Format.{actorsOf, countOf};
 ghost use Rattle.table.specs.Decode.{actionOf};
 ghost use Rattle.table.specs.Promise.{WellFormed};
-ghost use Rattle.model.specs.Views.{silent, posts};
-ghost use Rattle.lead.specs.Parts.{DueRight};
+ghost use Rattle.model.specs.Views.{posts};
+ghost use Rattle.lead.specs.Parts.{DueRight, Unheard};
 use policy::Policy;
 use policy::Turn;
 use state::Actor;
@@ -38,10 +38,10 @@ pub fn whose_turn(schedule: &[u8], i: usize, made: bool, policy: Policy, mask: u
     Due::Turn(Turn { actor, policy })
 }
 
-// Whether an actor has taken a step, and the last one posted nothing.
+// Whether an actor has taken a step, and the last one posted nothing that another may wait for.
 pub fn was_quiet(table: &[u8], a: usize, r: Actor) -> bool
     requires { ⌜ WellFormed (now table) × (a < actorsOf (now table)) × (r .position ≤ countOf (now table) a) ⌝ }
-    ensures { λ b. ⌜ (b ≡ true → (0 < r .position) × (posts (actionOf (now (table .entry)) a (r .position - 1)) ≡ silent)) ⌝ }
+    ensures { λ b. ⌜ (b ≡ true → (0 < r .position) × Unheard (posts (actionOf (now (table .entry)) a (r .position - 1)))) ⌝ }
 {
     let k = r.position;
     if k < 1 {
@@ -49,9 +49,6 @@ pub fn was_quiet(table: &[u8], a: usize, r: Actor) -> bool
     }
     let x = table::within::action(table, a, k - 1);
     match x {
-        Action::Set { cell: _, value: _ } => true,
-        Action::Add { cell: _, other: _ } => true,
-        Action::Lesser { cell: _, other: _ } => true,
         Action::Send {
             mailbox: _,
             cell: _,
@@ -60,11 +57,8 @@ pub fn was_quiet(table: &[u8], a: usize, r: Actor) -> bool
             mailbox: _,
             cell: _,
         } => false,
-        Action::TestAny { result: _, list: _ } => true,
-        Action::WaitAny { result: _, list: _ } => true,
         Action::Lock { mutex: _ } => false,
         Action::Unlock { mutex: _ } => false,
-        Action::MutexTest { result: _, list: _ } => true,
-        Action::MutexWait { result: _, list: _ } => true,
+        _ => true,
     }
 }

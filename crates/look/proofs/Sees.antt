@@ -14,8 +14,8 @@ use Rattle.model.specs.Step.{stepOf}
 pub see-parts : (s t : Site) (a : ℕ) (l : Look) → s .mail .comm ≡ t .mail .comm → s .queue ≡ t .queue → see s a l ≡ see t a l
 see-parts s t a blind m q = refl
 see-parts s t a (communications l) m q =
-    ap (λ (x : Name → Comm). see (record { actor = s .actor; mail = record { comm = x; waiting = s .mail .waiting }; queue = s .queue }) a (communications l)) m
-see-parts s t a (mutexes l) m q = ap (λ (x : ℕ → List ℕ). see (record { actor = s .actor; mail = s .mail; queue = x }) a (mutexes l)) q
+    ap (λ (x : Name → Comm). see (record { actor = s .actor; mail = record { comm = x; waiting = s .mail .waiting }; queue = s .queue; journal = s .journal }) a (communications l)) m
+see-parts s t a (mutexes l) m q = ap (λ (x : ℕ → List ℕ). see (record { actor = s .actor; mail = s .mail; queue = x; journal = s .journal }) a (mutexes l)) q
 
 -- and what an action is as the next step depends on its actor's cells besides
 pub step-parts : (table : List ℕ) (s t : Site) (a : ℕ) (x : Action) → s .actor a .cells ≡ t .actor a .cells → s .mail .comm ≡ t .mail .comm

@@ -1,4 +1,5 @@
--- An action by what it posts and by what it looks at: whatever is proved of posts and of looks goes by these cases, and not by the kinds.
+-- An action by what it posts, by what it looks at, and by whether it may be not taken: whatever is proved of these goes by their cases, and not by the
+-- kinds.
 -- Assumes nothing.
 use Prim.Native.Nat.{ℕ}
 use mathlib.Core.Path.{_≡_, refl, ap}
@@ -9,7 +10,7 @@ use Rattle.table.specs.declared.Action.{Action}
 use Rattle.table.specs.declared.Action.the-variants.{Set, Add, Lesser, Send, Receive, TestAny, WaitAny, Lock, Unlock, MutexTest, MutexWait, Note}
 use Rattle.table.specs.declared.Numbers.{Numbers}
 use Rattle.table.specs.Promise.{isPost}
-use Rattle.model.specs.Views.{silent, posts, sent, keeps, viewOf, blind, communications, mutexes, looks, listed}
+use Rattle.model.specs.Views.{silent, posts, sent, keeps, viewOf, blind, communications, mutexes, looks, waits, total, listed}
 use Rattle.model.specs.PairCases.{TestOrWait, MutexTestOrWait}
 
 -- ---- by what it posts
@@ -80,3 +81,25 @@ mutex-looks x list w = go (w .1)
     go : (x ≡ MutexTest (w .0) list) ⊎ (x ≡ MutexWait (w .0) list) → looks x ≡ mutexes (listed list)
     go (inl e) = ap looks e
     go (inr e) = ap looks e
+
+-- ---- by whether it may be not taken
+
+pub data Taking (x : Action) : Type 0 where
+  freely : waits x ≡ false → ((cells : List ℕ) → total x cells ≡ 0) → Taking x
+  adds : (cell other : ℕ) → x ≡ Add cell other → Taking x
+  waits-any : (result : ℕ) (list : Numbers) → x ≡ WaitAny result list → Taking x
+  waits-mutex : (result : ℕ) (list : Numbers) → x ≡ MutexWait result list → Taking x
+
+pub taking : (x : Action) → Taking x
+taking (Set cell value) = freely refl (λ cells. refl)
+taking (Add cell other) = adds cell other refl
+taking (Lesser cell other) = freely refl (λ cells. refl)
+taking (Send mailbox cell) = freely refl (λ cells. refl)
+taking (Receive mailbox cell) = freely refl (λ cells. refl)
+taking (TestAny result list) = freely refl (λ cells. refl)
+taking (WaitAny result list) = waits-any result list refl
+taking (Lock mutex) = freely refl (λ cells. refl)
+taking (Unlock mutex) = freely refl (λ cells. refl)
+taking (MutexTest result list) = freely refl (λ cells. refl)
+taking (MutexWait result list) = waits-mutex result list refl
+taking (Note cell) = freely refl (λ cells. refl)

@@ -1,12 +1,12 @@
 -- The journal is what the entries of a schedule add, in their order: by induction on the schedule, from any start. That each Note stands in it once is
 -- part of what holds of every reached state.
 -- Assumes nothing.
-use Prim.Native.Nat.{ℕ, zero, suc}
+use Prim.Native.Nat.{ℕ, zero, suc, _+_}
 use mathlib.Core.Path.{_≡_, refl, sym, _∙_, ap}
 use mathlib.Core.Logic.{_↔_}
 use mathlib.Core.Bool.{true, false≢true, cond}
 use mathlib.Core.List.{List, [], _∷_, _++_, append-assoc, append-nil}
-use lib.ListN.{length, getD, take}
+use lib.ListN.{length, getD, take, length-append}
 use Rattle.table.specs.declared.Action.{Action}
 use Rattle.table.specs.declared.Action.the-variants.{Note}
 use Rattle.trace.specs.Machine.{Name}
@@ -63,6 +63,12 @@ module _ (table : List ℕ) where
 
   in-order : (p : List ℕ) → endState table p .journal ≡ inOrder (notedAt table p) (length p) 0
   in-order p = journal-from initial p ∙ ap (λ (j : List Entry). j ++ inOrder (notedAt table p) (length p) 0) initial-empty
+
+  -- a Note makes it longer by one
+  pub note-longer : (s : Site) (a cell : ℕ) → nextAction table s a ≡ Note cell → length (step table s a .journal) ≡ length (s .journal) + 1
+  note-longer s a cell e =
+      ap length (step-adds s a ∙ ap (λ (x : Action). s .journal ++ noted x (nextName table s a) (s .actor a .cells)) e)
+      ∙ length-append (s .journal) (noted (Note cell) (nextName table s a) (s .actor a .cells))
 
 -- ---- a Note, and nothing else
 

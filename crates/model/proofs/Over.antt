@@ -12,7 +12,7 @@ use lib.Dec.{ltb}
 use lib.ListN.{length, getD, set, take}
 use lib.Seq.{getD-set-same, getD-set-other}
 use Rattle.table.specs.declared.Action.{Action}
-use Rattle.table.specs.declared.Action.the-variants.{Set, Add, Lesser, Send, Receive, TestAny, WaitAny, Lock, Unlock, MutexTest, MutexWait, Note}
+use Rattle.table.specs.declared.Action.the-variants.{Add}
 use Rattle.table.specs.Outcome.{Outcome, accepted, refused, _⨾_, numberOf}
 use Rattle.table.specs.Format.{actorsOf, countOf}
 use Rattle.table.specs.Read.{readOf}
@@ -40,28 +40,13 @@ use Rattle.model.specs.Over.{cellsAt, OverAfter, WouldPass, StillOver, G
 use Rattle.model.proofs.Upd.{not-equal}
 use Rattle.model.proofs.Ports.{number-test}
 use Rattle.model.proofs.Invariant.{others-record}
-use Rattle.model.proofs.NextSteps.{clash, over-runs}
+use Rattle.model.proofs.NextSteps.{clash, over-runs, total-add}
 use Rattle.model.proofs.Checks.{ready-parts, checks-after, taken-checks}
 use Rattle.model.proofs.ReportBoundCells.{own-record, eight-end}
 use Rattle.model.proofs.ReportBoundValues.{total-small, small-end}
 use Rattle.model.proofs.Demand3.{ready-taken, bit-ready, demand-3}
 
 -- ---- an Add that would pass the largest number
-
-total-add : (x : Action) (cells : List ℕ) → largest < total x cells
-    → (cell : ℕ) × (other : ℕ) × (x ≡ Add cell other) × (largest < getD cells cell 0 + getD cells other 0)
-total-add (Set cell value) cells h = absurd (omega arith)
-total-add (Add cell other) cells h = (cell, other, refl, h)
-total-add (Lesser cell other) cells h = absurd (omega arith)
-total-add (Send mailbox cell) cells h = absurd (omega arith)
-total-add (Receive mailbox cell) cells h = absurd (omega arith)
-total-add (TestAny result list) cells h = absurd (omega arith)
-total-add (WaitAny result list) cells h = absurd (omega arith)
-total-add (Lock mutex) cells h = absurd (omega arith)
-total-add (Unlock mutex) cells h = absurd (omega arith)
-total-add (MutexTest result list) cells h = absurd (omega arith)
-total-add (MutexWait result list) cells h = absurd (omega arith)
-total-add (Note cell) cells h = absurd (omega arith)
 
 -- the cells after an Add
 after-add : (own : ℕ → Action) (x : Action) (found : Seen) (cells : List ℕ) (cell other : ℕ) → x ≡ Add cell other

@@ -1,4 +1,4 @@
--- The begin and the end of a schedule's run: arrays of zeros hold a fresh site, and after the last entry the arrays hold the end state.
+-- The begin and the end of a schedule's run: empty arrays hold a fresh site, and after the last entry the arrays hold the end state.
 -- Assumes nothing.
 use mathlib.Core.Path.{_≡_, refl, _∙_, ap, sym, subst, fun-ext}
 use mathlib.Core.Bool.{Bool, true, false, cond}
@@ -17,8 +17,8 @@ use Rattle.model.specs.Schedule.{machine, endState, RefusalNumbers, checkSchedu
 use Rattle.model.proofs.Checks.{taken-checks}
 use Rattle.model.proofs.ReportBound.{entries-room}
 use Rattle.names.specs.InByte.{nameOf}
-use Rattle.state.specs.State.{recordOf, recordsOf, freshActor, commOf, commsOf, waitingOf, queuesOf, siteOf, portNumber}
-use Rattle.play.specs.Parts.{Zeros, Ended}
+use Rattle.state.specs.State.{recordOf, recordsOf, freshActor, commOf, commsOf, waitingOf, queuesOf, entryOf, notedIn, journalOf, siteOf, portNumber}
+use Rattle.play.specs.Parts.{Empty, Ended}
 use Rattle.state.specs.declared.Actor.{Actor}
 use Rattle.play.proofs.Playing.{Playing, Named}
 
@@ -57,21 +57,25 @@ fresh-queues = fun-ext each
     each : (m : ℕ) → queuesOf (zeros 72) m ≡ []
     each m = ap (λ (n : ℕ). take n (drop (9 * m + 1) (zeros 72))) (getD-alike {A = ℕ} 72 (9 * m) 0)
 
-fresh-site : (log : List ℕ) → siteOf (replicate 8 freshActor) (zeros 256) log (zeros 32) (zeros 72) ≡ initial
+fresh-journal : (journal : List ℕ) → notedIn journal ≡ 0 → journalOf journal ≡ []
+fresh-journal journal e = ap (λ (n : ℕ). map entryOf (take n (drop 1 journal))) e
+
+fresh-site : (log journal : List ℕ) → notedIn journal ≡ 0 → siteOf (replicate 8 freshActor) (zeros 256) log (zeros 32) (zeros 72) journal ≡ initial
 unfolding initial
-fresh-site log =
+fresh-site log journal e =
     λ i. record {
       actor = fresh-records i;
       mail = record { comm = fresh-comms i; waiting = fresh-waiting log i };
       queue = fresh-queues i;
+      journal = fresh-journal journal e i;
     }
 
-start-zeros : (table schedule : List ℕ) → WellFormed table
-    → Playing table schedule (zeros 256) (zeros 4096) (zeros 32) (zeros 72) (replicate 8 freshActor) 0
-start-zeros table schedule ok =
+start-empty : (table schedule log journal : List ℕ) → WellFormed table → length log ≡ 4096 → length journal ≡ 257 → notedIn journal ≡ 0
+    → Playing table schedule (zeros 256) log (zeros 32) (zeros 72) journal (replicate 8 freshActor) 0
+start-empty table schedule log journal ok log-long journal-long none =
     record {
       accepted-table = ok;
-      site = fresh-site (zeros 4096);
+      site = fresh-site log journal none;
       taken = refl;
       index = omega arith;
       actors-long = length-replicate 8 freshActor;
@@ -82,28 +86,29 @@ start-zeros table schedule ok =
           valued = λ j. subst (λ (c : ℕ). c < 2 ^ 42) (sym (getD-alike {A = ℕ} 256 j 0)) (lit< tt);
         };
         log-room = record {
-          log-long = length-replicate {A = ℕ} 4096 0;
+          log-long = log-long;
           ends-long = length-replicate {A = ℕ} 32 0;
           ordered = λ n. omega (arith, getD-alike {A = ℕ} 32 (2 * n) 0);
           bounded = λ n. omega (arith, getD-alike {A = ℕ} 32 (2 * n + 1) 0);
         };
       };
       queue-room = record { long = length-replicate {A = ℕ} 72 0; bounded = λ m. omega (arith, getD-alike {A = ℕ} 72 (9 * m) 0) };
+      journal-room = record { long = journal-long; bounded = omega (arith, none) };
       tail-room = λ n. omega (arith, getD-alike {A = ℕ} 32 (2 * n + 1) 0);
     }
 
--- fresh arrays hold a fresh site
-pub playing-start : (table schedule comms log ends queues : List ℕ) (actors : List Actor)
-    → WellFormed table → Zeros comms log ends queues → actors ≡ replicate 8 freshActor
-    → Playing table schedule comms log ends queues actors 0
-playing-start table schedule comms log ends queues actors ok z e =
-    rw (z .comms-fresh, z .log-fresh, z .ends-fresh, z .queues-fresh, e) (start-zeros table schedule ok)
+-- such arrays hold a fresh site
+pub playing-start : (table schedule comms log ends queues journal : List ℕ) (actors : List Actor)
+    → WellFormed table → Empty comms log ends queues journal → actors ≡ replicate 8 freshActor
+    → Playing table schedule comms log ends queues journal actors 0
+playing-start table schedule comms log ends queues journal actors ok z e =
+    rw (z .comms-fresh, z .ends-fresh, z .queues-fresh, e) (start-empty table schedule log journal ok (z .log-long) (z .journal-long) (z .journal-empty))
 
 pub named-start : (table schedule names′ : List ℕ) → length names′ ≡ 256 → Named table schedule names′ 0
 named-start table schedule names′ long = record { names-long = long; names-right = refl }
 
-module _ {table schedule comms log ends queues : List ℕ} {actors : List Actor} {i : ℕ}
-    (P : Playing table schedule comms log ends queues actors i) (through : length schedule ≤ i) where
+module _ {table schedule comms log ends queues journal : List ℕ} {actors : List Actor} {i : ℕ}
+    (P : Playing table schedule comms log ends queues journal actors i) (through : length schedule ≤ i) where
   all : i ≡ length schedule
   all = omega (arith, P .index)
 
@@ -116,7 +121,7 @@ module _ {table schedule comms log ends queues : List ℕ} {actors : List Actor}
   pub checks-end : (n : RefusalNumbers) → fine ≡ checkSchedule n table schedule
   checks-end n = sym (taken-checks table n initial 0 schedule taken-all)
 
-  pub ended : {names′ : List ℕ} → Named table schedule names′ i → Ended table schedule comms log ends queues names′ actors
+  pub ended : {names′ : List ℕ} → Named table schedule names′ i → Ended table schedule comms log ends queues journal names′ actors
   ended {names′} N =
       record {
         site = P .site ∙ ap (endState table) whole;
@@ -124,6 +129,7 @@ module _ {table schedule comms log ends queues : List ℕ} {actors : List Actor}
         eight = P .eight;
         mail-room = P .mail-room;
         queue-room = P .queue-room;
+        journal-room = P .journal-room;
         entries-most = entries-room table (P .accepted-table) schedule taken-all;
         names-long = N .names-long;
         names-right =

@@ -20,12 +20,12 @@ use Rattle.play.proofs.Playing.{reached, Playing, Named}
 use Rattle.play.proofs.Next.{entry-finished, entry-untaken, step-taken, steppable, room-here, playing-next, named-next}
 
 -- what a halt before the end says of the schedule is all that is to be shown
-pub refusal : {table schedule comms log ends queues names′ : List ℕ} (r : Played) → (r .halt ≡ End → ⊥)
-    → ((n : RefusalNumbers) → haltOf n (r .halt) ≡ checkSchedule n table schedule) → PlayedRight table schedule comms log ends queues names′ r
+pub refusal : {table schedule comms log ends queues journal names′ : List ℕ} (r : Played) → (r .halt ≡ End → ⊥)
+    → ((n : RefusalNumbers) → haltOf n (r .halt) ≡ checkSchedule n table schedule) → PlayedRight table schedule comms log ends queues journal names′ r
 refusal r before h = record { halted = h; counted = λ e. absurd (before e); ended = λ e. absurd (before e) }
 
-module _ {table schedule comms log ends queues : List ℕ} {actors : List Actor} {i : ℕ}
-    (P : Playing table schedule comms log ends queues actors i) (more : i < length schedule)
+module _ {table schedule comms log ends queues journal : List ℕ} {actors : List Actor} {i : ℕ}
+    (P : Playing table schedule comms log ends queues journal actors i) (more : i < length schedule)
     (a : ℕ) (entry : a ≡ getD schedule i 0) (r : Actor) (own : r ≡ getD actors a freshActor) where
   -- what holds of the entry's actor and its record holds of a and r
   as-read : (Q : ℕ → Actor → Type 0) → Q (getD schedule i 0) (getD actors (getD schedule i 0) freshActor) → Q a r
@@ -58,39 +58,39 @@ module _ {table schedule comms log ends queues : List ℕ} {actors : List Actor}
       → stepOf table (seenFrom q (mailOf comms log ends) (queuesOf queues)) b (nextOf table b q) ≡ taken)
       (step-taken P more)
 
-  pub steppable-as : a < actorsOf table → r .position < countOf table a → Steppable table a r comms log ends queues
+  pub steppable-as : a < actorsOf table → r .position < countOf table a → Steppable table a r comms log ends queues journal
   steppable-as =
-      as-read (λ b q. b < actorsOf table → q .position < countOf table b → Steppable table b q comms log ends queues) (steppable P more)
+      as-read (λ b q. b < actorsOf table → q .position < countOf table b → Steppable table b q comms log ends queues journal) (steppable P more)
 
-  pub room-as : {comms′ log′ ends′ queues′ : List ℕ} {s : Stepped} → a < actorsOf table → r .position < countOf table a
-      → StepTaken table a (nextOf table a r) r comms log ends queues comms′ log′ ends′ queues′ s → stepAs (s .next) ≡ taken
+  pub room-as : {comms′ log′ ends′ queues′ journal′ : List ℕ} {s : Stepped} → a < actorsOf table → r .position < countOf table a
+      → StepTaken table a (nextOf table a r) r comms log ends queues journal comms′ log′ ends′ queues′ journal′ s → stepAs (s .next) ≡ taken
       → i < 256
-  room-as {comms′} {log′} {ends′} {queues′} {s} =
+  room-as {comms′} {log′} {ends′} {queues′} {journal′} {s} =
       as-read
       (λ b q.
       b < actorsOf table → q .position < countOf table b
-      → StepTaken table b (nextOf table b q) q comms log ends queues comms′ log′ ends′ queues′ s → stepAs (s .next) ≡ taken
+      → StepTaken table b (nextOf table b q) q comms log ends queues journal comms′ log′ ends′ queues′ journal′ s → stepAs (s .next) ≡ taken
       → i < 256)
       (λ in-table left taken go. room-here P more in-table left taken go)
 
-  pub next-as : {comms′ log′ ends′ queues′ : List ℕ} {s : Stepped} → a < actorsOf table → r .position < countOf table a
-      → StepTaken table a (nextOf table a r) r comms log ends queues comms′ log′ ends′ queues′ s → stepAs (s .next) ≡ taken
-      → Playing table schedule comms′ log′ ends′ queues′ (set actors a (s .actor)) (i + 1)
-  next-as {comms′} {log′} {ends′} {queues′} {s} =
+  pub next-as : {comms′ log′ ends′ queues′ journal′ : List ℕ} {s : Stepped} → a < actorsOf table → r .position < countOf table a
+      → StepTaken table a (nextOf table a r) r comms log ends queues journal comms′ log′ ends′ queues′ journal′ s → stepAs (s .next) ≡ taken
+      → Playing table schedule comms′ log′ ends′ queues′ journal′ (set actors a (s .actor)) (i + 1)
+  next-as {comms′} {log′} {ends′} {queues′} {journal′} {s} =
       as-read
       (λ b q.
       b < actorsOf table → q .position < countOf table b
-      → StepTaken table b (nextOf table b q) q comms log ends queues comms′ log′ ends′ queues′ s → stepAs (s .next) ≡ taken
-      → Playing table schedule comms′ log′ ends′ queues′ (set actors b (s .actor)) (i + 1))
+      → StepTaken table b (nextOf table b q) q comms log ends queues journal comms′ log′ ends′ queues′ journal′ s → stepAs (s .next) ≡ taken
+      → Playing table schedule comms′ log′ ends′ queues′ journal′ (set actors b (s .actor)) (i + 1))
       (λ in-table left taken go. playing-next P more in-table left taken go)
 
-  pub named-as : {comms′ log′ ends′ queues′ names′ : List ℕ} {s : Stepped} → a < actorsOf table → r .position < countOf table a
-      → StepTaken table a (nextOf table a r) r comms log ends queues comms′ log′ ends′ queues′ s → stepAs (s .next) ≡ taken
+  pub named-as : {comms′ log′ ends′ queues′ journal′ names′ : List ℕ} {s : Stepped} → a < actorsOf table → r .position < countOf table a
+      → StepTaken table a (nextOf table a r) r comms log ends queues journal comms′ log′ ends′ queues′ journal′ s → stepAs (s .next) ≡ taken
       → Named table schedule names′ i → Named table schedule (set names′ i (32 * a + r .position)) (i + 1)
-  named-as {comms′} {log′} {ends′} {queues′} {names′} {s} =
+  named-as {comms′} {log′} {ends′} {queues′} {journal′} {names′} {s} =
       as-read
       (λ b q.
       b < actorsOf table → q .position < countOf table b
-      → StepTaken table b (nextOf table b q) q comms log ends queues comms′ log′ ends′ queues′ s → stepAs (s .next) ≡ taken
+      → StepTaken table b (nextOf table b q) q comms log ends queues journal comms′ log′ ends′ queues′ journal′ s → stepAs (s .next) ≡ taken
       → Named table schedule names′ i → Named table schedule (set names′ i (32 * b + q .position)) (i + 1))
       (λ in-table left taken go. named-next P more in-table left taken go)

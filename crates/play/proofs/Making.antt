@@ -1,7 +1,7 @@
 -- A schedule in the making: the rest of it is what the rule makes of the state that the turns so far have left. What the end, and one more turn, make of
 -- that; who is known to be ready after it.
 -- Assumes nothing.
-use mathlib.Core.Path.{_≡_, refl, _∙_, ap, sym}
+use mathlib.Core.Path.{_≡_, refl, _∙_, ap, sym, subst}
 use mathlib.Core.Bool.{true}
 use mathlib.Core.List.{List, [], _∷_, _++_}
 use Prim.Native.Nat.{ℕ, suc, _+_, _-_, _<_, _≤_}
@@ -15,7 +15,7 @@ use Rattle.table.specs.Decode.{actionOf}
 use Rattle.trace.specs.Schedule.{final}
 use Rattle.trace.proofs.Run.{inv-final}
 use Rattle.model.specs.Site.{Site, initial}
-use Rattle.model.specs.Views.{silent, posts}
+use Rattle.model.specs.Views.{posts}
 use Rattle.model.specs.Step.{ready, step}
 use Rattle.model.specs.Ready.{readyMask, readyCount}
 use Rattle.model.specs.ReadyMask.{bitOf}
@@ -31,6 +31,7 @@ use Rattle.model.proofs.ReportBoundSteps.{schedule-taken}
 use Rattle.model.proofs.Scheduled.{Chooses, ready-left, turn-ready, entries-turn, entries-end}
 use Rattle.state.specs.State.{freshActor}
 use Rattle.state.specs.declared.Actor.{Actor}
+use Rattle.lead.specs.Parts.{Unheard}
 use Rattle.readiness.specs.Parts.{Answerable, Known}
 use Rattle.readiness.proofs.Laws.{ready-alike}
 use Rattle.play.proofs.Prefix.{final-more}
@@ -46,8 +47,8 @@ pub left-start : (rule : Rule) (table : List ℕ) (start : ℕ) → Left rule ta
 unfolding madeFrom
 left-start rule table start = refl
 
-module _ (rule : Rule) (chooses : Chooses rule) (table whole : List ℕ) (kept : ℕ) {comms log ends queues : List ℕ} {actors : List Actor} {i mask : ℕ}
-    (P : Playing table whole comms log ends queues actors i) (rest : Left rule table whole i kept) (masked : mask ≡ readyMask table (reached table whole i)) where
+module _ (rule : Rule) (chooses : Chooses rule) (table whole : List ℕ) (kept : ℕ) {comms log ends queues journal : List ℕ} {actors : List Actor} {i mask : ℕ}
+    (P : Playing table whole comms log ends queues journal actors i) (rest : Left rule table whole i kept) (masked : mask ≡ readyMask table (reached table whole i)) where
   abbrev here : Site
   here = reached table whole i
 
@@ -105,19 +106,19 @@ module _ (rule : Rule) (chooses : Chooses rule) (table whole : List ℕ) (kept :
         ∙ ap (entriesFrom rule table (scheduleRoom - (i + 1)) (reached table whole (i + 1))) (sym k)
 
     -- who was ready before the step is ready after it, but perhaps its own actor
-    pub known-next : {comms′ log′ ends′ queues′ : List ℕ} {actors′ : List Actor} → Playing table whole comms′ log′ ends′ queues′ actors′ (i + 1)
+    pub known-next : {comms′ log′ ends′ queues′ journal′ : List ℕ} {actors′ : List Actor} → Playing table whole comms′ log′ ends′ queues′ journal′ actors′ (i + 1)
         → Known table mask a actors′ comms′ queues′
-    known-next {comms′} {log′} {ends′} {queues′} {actors′} Q j h ne l e =
+    known-next {comms′} {log′} {ends′} {queues′} {journal′} {actors′} Q j h ne l e n =
         let was : ready table here j ≡ true =
         bit-one (ready table here j) (sym (mask-right table here .bits j) ∙ sym (ap (λ (m : ℕ). bitOf m j) masked) ∙ h) in
         let inv = inv-final (laws table) initial (take i whole) (inv-initial table) (P .taken) in
-        ready-alike table actors′ comms′ queues′ l e log′ ends′ j
+        ready-alike table actors′ comms′ queues′ l e n log′ ends′ journal′ j
         ∙ ap (λ (s : Site). ready table s j) (Q .site ∙ there) ∙ laws table .persist here j a inv ne was is-ready
 
-    -- after a step that posted nothing, the mask is right but perhaps for its own actor
-    pub open-next : {comms′ log′ ends′ queues′ : List ℕ} {actors′ : List Actor} → Playing table whole comms′ log′ ends′ queues′ actors′ (i + 1)
-        → posts (actionOf table a (getD actors′ a freshActor .position - 1)) ≡ silent → OwnOpen table (reached table whole (i + 1)) mask a
-    open-next {comms′} {log′} {ends′} {queues′} {actors′} Q quiet =
+    -- after a step that nobody waits for, the mask is right but perhaps for its own actor
+    pub open-next : {comms′ log′ ends′ queues′ journal′ : List ℕ} {actors′ : List Actor} → Playing table whole comms′ log′ ends′ queues′ journal′ actors′ (i + 1)
+        → Unheard (posts (actionOf table a (getD actors′ a freshActor .position - 1))) → OwnOpen table (reached table whole (i + 1)) mask a
+    open-next {comms′} {log′} {ends′} {queues′} {journal′} {actors′} Q quiet =
         let one-on : getD actors′ a freshActor .position ≡ suc (here .actor a .position) =
         ap (λ (s : Site). s .actor a .position) (Q .site ∙ there) ∙ own-position table here a in
         let its-own : here .actor a .position ≡ getD actors′ a freshActor .position - 1 = omega arith in
@@ -126,14 +127,14 @@ module _ (rule : Rule) (chooses : Chooses rule) (table whole : List ℕ) (kept :
           was-masked = masked;
           had = is-ready;
           others = λ j ne.
-              sym (quiet-ready table here a (ap (λ (k : ℕ). posts (actionOf table a k)) its-own ∙ quiet) j ne) ∙ ap (λ (s : Site). ready table s j) (sym there);
+              sym (quiet-ready table here a (subst (λ (k : ℕ). Unheard (posts (actionOf table a k))) (sym its-own) quiet) j ne) ∙ ap (λ (s : Site). ready table s j) (sym there);
         }
 
     pub turn-in-table : a < actorsOf table
     turn-in-table = ltb-true a (actorsOf table) (ready-parts table here a is-ready .0)
 
 -- what a look at every actor may rely on
-pub answerable : {table schedule comms log ends queues : List ℕ} {actors : List Actor} {i : ℕ} → Playing table schedule comms log ends queues actors i
+pub answerable : {table schedule comms log ends queues journal : List ℕ} {actors : List Actor} {i : ℕ} → Playing table schedule comms log ends queues journal actors i
     → Answerable table actors comms queues
 answerable P =
     record {

@@ -13,6 +13,7 @@ use lib.Dec.{eqb, ltb}
 use lib.ListN.{length, getD, take, drop, set, length-set, take-append-drop}
 use lib.Seq.{take-suc, drop-cons, take-suc-set, getD-set-same, getD-set-other, length-take-le}
 use Rattle.table.specs.declared.Action.{Action}
+use Rattle.table.specs.declared.Action.the-variants.{Note}
 use Rattle.table.specs.Outcome.{Outcome, refused, _⨾_}
 use Rattle.table.specs.Format.{actorsOf, countOf}
 use Rattle.table.specs.Decode.{actionOf}
@@ -23,13 +24,14 @@ use Rattle.model.specs.Site.{Site, Actor as Record, upd, name, initial}
 use Rattle.model.specs.Views.{looks}
 use Rattle.model.specs.Mutex.{join}
 use Rattle.model.specs.Local.{Seen, see, local}
-use Rattle.model.specs.Step.{NextStep, taken, waiting, over, isTaken, unfinished, stepOf, nextStep, ready, step}
+use Rattle.model.specs.Step.{NextStep, taken, waiting, over, isTaken, unfinished, stepOf, nextStep, nextAction, ready, step}
 use Rattle.model.specs.Schedule.{machine, RefusalNumbers, checkStep, checkFrom, checkSchedule}
 use Rattle.model.proofs.Reached.{reached-end}
+use Rattle.model.proofs.Journaled.{note-longer}
 use Rattle.model.proofs.ReportBoundCells.{cellsAfter-length}
-use Rattle.model.proofs.ReportBound.{entries-room}
+use Rattle.model.proofs.ReportBound.{entries-room, journal-room}
 use Rattle.names.specs.InByte.{nameOf}
-use Rattle.state.specs.State.{recordOf, recordsOf, freshActor, mailOf, queuesOf, siteOf, EightCells, nextOf, seenFrom, stepAs}
+use Rattle.state.specs.State.{recordOf, recordsOf, freshActor, mailOf, queuesOf, notedIn, siteOf, EightCells, nextOf, seenFrom, stepAs}
 use Rattle.step.specs.Parts.{Steppable, StepTaken}
 use Rattle.state.specs.declared.Actor.{Actor}
 use Rattle.step.specs.declared.Stepped.{Stepped}
@@ -37,6 +39,7 @@ use Rattle.names.proofs.InByte.{name-byte}
 use Rattle.model.proofs.Checks.{ready-parts, parts-ready, checks-after}
 use Rattle.play.proofs.Prefix.{accepted-more, final-more, names-more}
 use Rattle.play.proofs.Playing.{reached, Playing, Named, records-set, join-most}
+use Rattle.journal.proofs.Held.{counts}
 use Rattle.look.proofs.Sees.{see-parts, step-parts}
 
 -- what follows a step that is not taken plays no part
@@ -45,10 +48,10 @@ step-decides n taken i after h = absurd (true≢false h)
 step-decides n waiting i after h = refl
 step-decides n over i after h = refl
 
-module _ {table schedule comms log ends queues : List ℕ} {actors : List Actor} {i : ℕ}
-    (P : Playing table schedule comms log ends queues actors i) where
+module _ {table schedule comms log ends queues journal : List ℕ} {actors : List Actor} {i : ℕ}
+    (P : Playing table schedule comms log ends queues journal actors i) where
   abbrev here : Site
-  here = siteOf actors comms log ends queues
+  here = siteOf actors comms log ends queues journal
 
   pub entries-so-far : i ≤ 256
   entries-so-far =
@@ -125,7 +128,27 @@ module _ {table schedule comms log ends queues : List ℕ} {actors : List Actor}
             let long : length (take (i + 1) schedule) ≡ i + 1 = length-take-le (i + 1) schedule (omega arith) in
             omega arith
 
-        pub steppable : Steppable table a r comms log ends queues
+        -- a Note is taken, so that the journal with its entry is that of a state that is reached too
+        note-more : (cell : ℕ) → x ≡ Note cell → notedIn journal < 256
+        note-more cell e =
+            let now : ready table (reached table schedule i) a ≡ true =
+            ready-here (ap (stepOf table (seenFrom r (mailOf comms log ends) (queuesOf queues)) a) e) in
+            let there : length (reached table schedule (i + 1) .journal) ≤ 256 =
+            journal-room table (P .accepted-table) (reached table schedule (i + 1)) (reached-end table (take (i + 1) schedule) (taken-more now)) in
+            let one-on : reached table schedule (i + 1) ≡ step table (reached table schedule i) a =
+            ap (final (machine table) initial) one-more ∙ final-more (machine table) initial (take i schedule) a in
+            let action : nextAction table (reached table schedule i) a ≡ Note cell =
+            ap (λ (q : Record). actionOf table a (q .position)) (record-reached a) ∙ e in
+            omega (
+              arith,
+              there,
+              ap (λ (s : Site). length (s .journal)) one-on,
+              note-longer table (reached table schedule i) a cell action,
+              ap (λ (s : Site). length (s .journal)) (P .site),
+              counts journal (P .journal-room),
+            )
+
+        pub steppable : Steppable table a r comms log ends queues journal
         steppable =
             record {
               accepted = P .accepted-table;
@@ -134,14 +157,16 @@ module _ {table schedule comms log ends queues : List ℕ} {actors : List Actor}
               eight = P .eight a;
               mail-room = P .mail-room;
               queue-room = P .queue-room;
+              journal-room = P .journal-room;
               tail-room = λ e n. let small = room-more (ready-here e) in omega (arith, P .tail-room n);
               join-room = λ m.
                   subst (λ (q : ℕ → List ℕ). length (join (q m) a) ≤ 8) (sym (ap (λ (s : Site). s .queue) (P .site)))
                   (join-most table (reached table schedule i) a (P .accepted-table) (reached-end table (take i schedule) (P .taken)) in-table m);
+              note-room = note-more;
             }
 
-        module _ {comms′ log′ ends′ queues′ : List ℕ} {s : Stepped}
-            (T : StepTaken table a x r comms log ends queues comms′ log′ ends′ queues′ s) (go : stepAs (s .next) ≡ taken) where
+        module _ {comms′ log′ ends′ queues′ journal′ : List ℕ} {s : Stepped}
+            (T : StepTaken table a x r comms log ends queues journal comms′ log′ ends′ queues′ journal′ s) (go : stepAs (s .next) ≡ taken) where
           was-ready : ready table (reached table schedule i) a ≡ true
           was-ready = ready-here (sym (T .next-right) ∙ go)
 
@@ -151,7 +176,7 @@ module _ {table schedule comms log ends queues : List ℕ} {actors : List Actor}
           in-actors : a < length actors
           in-actors = omega (arith, P .actors-long, P .accepted-table .actors-most)
 
-          stepped : siteOf (set actors a (s .actor)) comms′ log′ ends′ queues′ ≡ step table here a
+          stepped : siteOf (set actors a (s .actor)) comms′ log′ ends′ queues′ journal′ ≡ step table here a
           unfolding step
           stepped =
               let records : recordsOf (set actors a (s .actor)) ≡ upd eqb (recordsOf actors) a (local (actionOf table a) x (see here a (looks x)) (recordOf r)) =
@@ -160,7 +185,7 @@ module _ {table schedule comms log ends queues : List ℕ} {actors : List Actor}
               (T .took go .record-next
               ∙ ap (λ (found : Seen). local (actionOf table a) x found (recordOf r))
               (see-parts (seenFrom r (mailOf comms log ends) (queuesOf queues)) here a (looks x) refl refl)) in
-              λ j. record { actor = records j; mail = T .took go .mail-next j; queue = T .took go .queue-next j }
+              λ j. record { actor = records j; mail = T .took go .mail-next j; queue = T .took go .queue-next j; journal = T .took go .journal-next j }
 
           eight-next : EightCells (s .actor)
           eight-next =
@@ -195,7 +220,7 @@ module _ {table schedule comms log ends queues : List ℕ} {actors : List Actor}
                     ∙ sym (ap (names (machine table) initial) one-more ∙ names-more (machine table) initial (take i schedule) a);
               }
 
-          pub playing-next : Playing table schedule comms′ log′ ends′ queues′ (set actors a (s .actor)) (i + 1)
+          pub playing-next : Playing table schedule comms′ log′ ends′ queues′ journal′ (set actors a (s .actor)) (i + 1)
           playing-next =
               record {
                 accepted-table = P .accepted-table;
@@ -208,5 +233,6 @@ module _ {table schedule comms log ends queues : List ℕ} {actors : List Actor}
                 eight = eight-all;
                 mail-room = T .mail-room;
                 queue-room = T .queue-room;
+                journal-room = T .journal-room;
                 tail-room = λ n. omega (arith, T .grown n, P .tail-room n);
               }

@@ -1,27 +1,40 @@
--- A step that posts nothing leaves the others as they are: who is ready changes for its own actor alone.
+-- A step that nobody waits for leaves the others as they are: who is ready changes for its own actor alone.
 -- Assumes nothing.
 use mathlib.Core.Path.{_≡_, _∙_, ap}
-use mathlib.Core.Logic.{_≢_}
+use mathlib.Core.Logic.{_⊎_, inl, inr, _≢_}
 use mathlib.Core.Bool.{_&&_}
 use mathlib.Core.List.{List}
 use Prim.Native.Nat.{ℕ}
 use lib.Dec.{ltb}
 use Rattle.table.specs.Format.{actorsOf, countOf}
 use Rattle.table.specs.Decode.{actionOf}
+use Rattle.trace.specs.Machine.{Name}
 use Rattle.model.specs.Site.{Site, Actor, Mail}
-use Rattle.model.specs.Views.{silent, posts}
+use Rattle.model.specs.Views.{Post, silent, notes, posts}
+use Rattle.model.specs.Mail.{mailing}
+use Rattle.model.specs.Mutex.{queueing}
+use Rattle.lead.specs.Parts.{Unheard}
 use Rattle.model.specs.Step.{NextStep, isTaken, stepOf, nextAction, ready, step}
 use Rattle.model.proofs.Invariant.{others-record}
 use Rattle.look.proofs.Sees.{step-parts}
 
-module _ (table : List ℕ) (s : Site) (a : ℕ) (quiet : posts (nextAction table s a) ≡ silent) where
+-- it changes neither the mail nor the queues
+unheard-mail : (p : Post) (me : Name) (v : ℕ) (m : Mail) → Unheard p → mailing p me v m ≡ m
+unheard-mail p me v m (inl e) = rw e
+unheard-mail p me v m (inr e) = rw e
+
+unheard-queues : (p : Post) (a : ℕ) (f : ℕ → List ℕ) → Unheard p → queueing p a f ≡ f
+unheard-queues p a f (inl e) = rw e
+unheard-queues p a f (inr e) = rw e
+
+module _ (table : List ℕ) (s : Site) (a : ℕ) (quiet : Unheard (posts (nextAction table s a))) where
   same-mail : step table s a .mail ≡ s .mail
   unfolding step
-  same-mail = rw quiet
+  same-mail = unheard-mail (posts (nextAction table s a)) _ _ (s .mail) quiet
 
   same-queues : step table s a .queue ≡ s .queue
   unfolding step
-  same-queues = rw quiet
+  same-queues = unheard-queues (posts (nextAction table s a)) a (s .queue) quiet
 
   pub quiet-ready : (j : ℕ) → j ≢ a → ready table (step table s a) j ≡ ready table s j
   unfolding ready

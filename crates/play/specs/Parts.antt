@@ -13,7 +13,7 @@ use Rattle.model.specs.Schedule.{machine, endState, RefusalNumbers, checkSchedu
 use Rattle.model.specs.Scheduler.{madeFrom}
 use Rattle.names.specs.InByte.{nameOf}
 use Rattle.state.specs.declared.Actor.{Actor}
-use Rattle.state.specs.State.{siteOf, MailRoom, QueueRoom, freshActor, EightCells}
+use Rattle.state.specs.State.{notedIn, siteOf, MailRoom, QueueRoom, JournalRoom, freshActor, EightCells}
 use Rattle.answers.specs.Answers.{stopOf}
 use Rattle.policy.specs.Parts.{ruleOf, keptOf}
 use Rattle.policy.specs.declared.Policy.{Policy}
@@ -21,17 +21,19 @@ use Rattle.play.specs.declared.Halt.{Halt}
 use Rattle.play.specs.declared.Halt.the-variants.{End, At}
 use Rattle.play.specs.declared.Played.{Played}
 
--- arrays of zeros
-pub record Zeros (comms log ends queues : List ℕ) : Type 0 where
+-- arrays that hold a fresh site: what the logs hold, and the journal after its number, plays no part
+pub record Empty (comms log ends queues journal : List ℕ) : Type 0 where
   pub comms-fresh : comms ≡ replicate 256 0
-  pub log-fresh : log ≡ replicate 4096 0
+  pub log-long : length log ≡ 4096
   pub ends-fresh : ends ≡ replicate 32 0
   pub queues-fresh : queues ≡ replicate 72 0
+  pub journal-long : length journal ≡ 257
+  pub journal-empty : notedIn journal ≡ 0
 
--- an accepted table, arrays of zeros, and an array for the names
-pub record Fresh (table comms log ends queues names′ : List ℕ) : Type 0 where
+-- an accepted table, arrays that hold a fresh site, and an array for the names
+pub record Fresh (table comms log ends queues journal names′ : List ℕ) : Type 0 where
   pub accepted : WellFormed table
-  pub zeros : Zeros comms log ends queues
+  pub empty : Empty comms log ends queues journal
   pub names-long : length names′ ≡ 256
 
 -- the schedule that a policy makes; and the one that is played, where it is made and where it is lent
@@ -47,17 +49,18 @@ haltOf n End = accepted
 haltOf n (At stop) = stopOf n stop
 
 -- the end state, in arrays
-pub record Ended (table schedule comms log ends queues names′ : List ℕ) (actors : List Actor) : Type 0 where
-  pub site : siteOf actors comms log ends queues ≡ endState table schedule
+pub record Ended (table schedule comms log ends queues journal names′ : List ℕ) (actors : List Actor) : Type 0 where
+  pub site : siteOf actors comms log ends queues journal ≡ endState table schedule
   pub actors-long : length actors ≡ 8
   pub eight : (a : ℕ) → EightCells (getD actors a freshActor)
   pub mail-room : MailRoom comms log ends
   pub queue-room : QueueRoom queues
+  pub journal-room : JournalRoom journal
   pub entries-most : length schedule ≤ 256
   pub names-long : length names′ ≡ 256
   pub names-right : map nameOf (take (length schedule) names′) ≡ names (machine table) initial schedule
 
-pub record PlayedRight (table schedule comms log ends queues names′ : List ℕ) (r : Played) : Type 0 where
+pub record PlayedRight (table schedule comms log ends queues journal names′ : List ℕ) (r : Played) : Type 0 where
   pub halted : (n : RefusalNumbers) → haltOf n (r .halt) ≡ checkSchedule n table schedule
   pub counted : r .halt ≡ End → r .steps ≡ length schedule
-  pub ended : r .halt ≡ End → Ended table schedule comms log ends queues names′ (r .actors)
+  pub ended : r .halt ≡ End → Ended table schedule comms log ends queues journal names′ (r .actors)

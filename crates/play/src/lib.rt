@@ -27,11 +27,12 @@ pub fn play(
     log: &mut [u8; 4096],
     ends: &mut [usize; 32],
     queues: &mut [u8; 72],
+    journal: &mut [usize; 257],
     names: &mut [u8; 256],
 ) -> Played
-    requires { ⌜ Fresh (now table) (now comms) (now log) (now ends) (now queues) (now names) ⌝ }
+    requires { ⌜ Fresh (now table) (now comms) (now log) (now ends) (now queues) (now journal) (now names) ⌝ }
     ensures { λ r. ⌜ PlayedRight (now (table .entry)) (now (schedule .entry)) (now (comms .exit)) (now (log .exit)) (now (ends .exit))
-        (now (queues .exit)) (now (names .exit)) r ⌝ }
+        (now (queues .exit)) (now (journal .exit)) (now (names .exit)) r ⌝ }
 {
     // of a lent schedule it plays no part
     let policy = Policy::drawn(0);
@@ -44,6 +45,7 @@ pub fn play(
         log,
         ends,
         queues,
+        journal,
         names,
     )
 }
@@ -56,13 +58,16 @@ pub fn make(
     log: &mut [u8; 4096],
     ends: &mut [usize; 32],
     queues: &mut [u8; 72],
+    journal: &mut [usize; 257],
     names: &mut [u8; 256],
 ) -> Played
-    requires { ⌜ Fresh (now table) (now comms) (now log) (now ends) (now queues) (now names) ⌝ }
+    requires { ⌜ Fresh (now table) (now comms) (now log) (now ends) (now queues) (now journal) (now names) ⌝ }
     ensures { λ r. ⌜ PlayedRight (now (table .entry)) (scheduleBy (now (table .entry)) policy) (now (comms .exit)) (now (log .exit)) (now (ends .exit))
-        (now (queues .exit)) (now (names .exit)) r ⌝ }
+        (now (queues .exit)) (now (journal .exit)) (now (names .exit)) r ⌝ }
 {
-    turns(table, table, true, policy, comms, log, ends, queues, names)
+    turns(
+        table, table, true, policy, comms, log, ends, queues, journal, names,
+    )
 }
 
 // Plays the lent schedule, or the one that the policy makes. One loop for both, so that the step stands in one place.
@@ -75,11 +80,12 @@ fn turns(
     log: &mut [u8; 4096],
     ends: &mut [usize; 32],
     queues: &mut [u8; 72],
+    journal: &mut [usize; 257],
     names: &mut [u8; 256],
 ) -> Played
-    requires { ⌜ Fresh (now table) (now comms) (now log) (now ends) (now queues) (now names) ⌝ }
+    requires { ⌜ Fresh (now table) (now comms) (now log) (now ends) (now queues) (now journal) (now names) ⌝ }
     ensures { λ r. ⌜ PlayedRight (now (table .entry)) (playedBy (now (table .entry)) (now (schedule .entry)) made policy) (now (comms .exit)) (now (log .exit))
-        (now (ends .exit)) (now (queues .exit)) (now (names .exit)) r ⌝ }
+        (now (ends .exit)) (now (queues .exit)) (now (journal .exit)) (now (names .exit)) r ⌝ }
 {
     let n = table::access::actors(table);
     let fresh = Actor::fresh();
@@ -124,7 +130,7 @@ fn turns(
                         actors,
                     };
                 }
-                let s = step::step(table, a, r, comms, log, ends, queues);
+                let s = step::step(table, a, r, comms, log, ends, queues, journal);
                 let next = s.next;
                 match next {
                     NextStep::Taken => {

@@ -10,16 +10,6 @@ ghost use Rattle.writing.specs.Written.{Wrote};
 ghost use Rattle.queue_sections.specs.Parts.{stepsBytes, portBytes, queueOf, boxesBytes, mutexesBytes};
 use table::bytes;
 
-// Two bytes.
-fn two(a: u8, b: u8, buf: &mut [u8]) -> usize
-    requires { ⌜ 2 ≤ length (now buf) ⌝ }
-    ensures { λ r. ⌜ Wrote (now (buf .entry)) (a ∷ b ∷ []) (now (buf .exit)) r ⌝ }
-{
-    buf[0] = a;
-    buf[1] = b;
-    2
-}
-
 // So many step names of the log from a place on.
 fn names(log: &[u8; 4096], from: usize, count: usize, buf: &mut [u8]) -> usize
     requires { ⌜ (length (now log) ≡ 4096) × (from + count ≤ 4096) × (length (stepsBytes (now log) from count) ≤ length (now buf)) ⌝ }
@@ -29,7 +19,7 @@ fn names(log: &[u8; 4096], from: usize, count: usize, buf: &mut [u8]) -> usize
     let mut i = 0;
     while i < count {
         let n = log[from + i];
-        at += two(n / 32, n % 32, &mut buf[at..]);
+        at += writing::two(n / 32, n % 32, &mut buf[at..]);
         i += 1;
     }
     at
@@ -61,7 +51,7 @@ fn box_part(log: &[u8; 4096], ends: &[usize; 32], m: usize, buf: &mut [u8]) -> u
 {
     let sends = waiting(ends, 2 * m);
     let size = sends + waiting(ends, 2 * m + 1);
-    let at = two((size % 256) as u8, (size / 256 % 256) as u8, buf);
+    let at = writing::two((size % 256) as u8, (size / 256 % 256) as u8, buf);
     let next = at + port_part(log, ends, 2 * m, &mut buf[at..]);
     next + port_part(log, ends, 2 * m + 1, &mut buf[next..])
 }

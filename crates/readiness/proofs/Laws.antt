@@ -43,33 +43,33 @@ module _ (table : List ℕ) (a : ℕ) (r : Actor) (comms queues : List ℕ) wher
       → (log ends : List ℕ) → t ≡ stepFrom table a r comms queues log ends
   steps-by x e t next log ends = next log ends ∙ ap (stepOf table (seenFrom r (mailOf comms log ends) (queuesOf queues)) a) (sym e)
 
--- what an actor's next step is, by its record: the ports' logs play no part
-pub step-looks : (table : List ℕ) (actors : List Actor) (comms queues log ends log′ ends′ : List ℕ) (a : ℕ)
-    → nextStep table (siteWith actors comms queues log ends) a ≡ stepFrom table a (getD actors a freshActor) comms queues log′ ends′
-step-looks table actors comms queues log ends log′ ends′ a =
+-- what an actor's next step is, by its record: the ports' logs and the journal play no part
+pub step-looks : (table : List ℕ) (actors : List Actor) (comms queues log ends journal log′ ends′ : List ℕ) (a : ℕ)
+    → nextStep table (siteWith actors comms queues log ends journal) a ≡ stepFrom table a (getD actors a freshActor) comms queues log′ ends′
+step-looks table actors comms queues log ends journal log′ ends′ a =
     let r : Actor = getD actors a freshActor in
-    step-parts table (siteWith actors comms queues log ends) (seenFrom r (mailOf comms log′ ends′) (queuesOf queues)) a (nextOf table a r) refl refl refl
+    step-parts table (siteWith actors comms queues log ends journal) (seenFrom r (mailOf comms log′ ends′) (queuesOf queues)) a (nextOf table a r) refl refl refl
 
 -- nor whether it is ready
-pub ready-alike : (table : List ℕ) (actors : List Actor) (comms queues log ends log′ ends′ : List ℕ) (a : ℕ)
-    → ready table (siteWith actors comms queues log ends) a ≡ ready table (siteWith actors comms queues log′ ends′) a
+pub ready-alike : (table : List ℕ) (actors : List Actor) (comms queues log ends journal log′ ends′ journal′ : List ℕ) (a : ℕ)
+    → ready table (siteWith actors comms queues log ends journal) a ≡ ready table (siteWith actors comms queues log′ ends′ journal′) a
 unfolding ready
-ready-alike table actors comms queues log ends log′ ends′ a =
+ready-alike table actors comms queues log ends journal log′ ends′ journal′ a =
     ap (λ (t : NextStep). ltb a (actorsOf table) && (ltb (getD actors a freshActor .position) (countOf table a) && isTaken t))
-    (step-looks table actors comms queues log ends log′ ends′ a ∙ sym (step-looks table actors comms queues log′ ends′ log′ ends′ a))
+    (step-looks table actors comms queues log ends journal log′ ends′ a ∙ sym (step-looks table actors comms queues log′ ends′ journal′ log′ ends′ a))
 
-pub ready-looks : (table : List ℕ) (actors : List Actor) (comms queues log ends : List ℕ) (a : ℕ) → a < actorsOf table
-    → ready table (siteWith actors comms queues log ends) a ≡ looksReady table a (getD actors a freshActor) comms queues log ends
+pub ready-looks : (table : List ℕ) (actors : List Actor) (comms queues log ends journal : List ℕ) (a : ℕ) → a < actorsOf table
+    → ready table (siteWith actors comms queues log ends journal) a ≡ looksReady table a (getD actors a freshActor) comms queues log ends
 unfolding ready
-ready-looks table actors comms queues log ends a h =
+ready-looks table actors comms queues log ends journal a h =
     rw (lt-ltb a (actorsOf table) h)
-    (ap (λ (t : NextStep). ltb (getD actors a freshActor .position) (countOf table a) && isTaken t) (step-looks table actors comms queues log ends log ends a))
+    (ap (λ (t : NextStep). ltb (getD actors a freshActor .position) (countOf table a) && isTaken t) (step-looks table actors comms queues log ends journal log ends a))
 
 -- ---- the mask
 
 -- a mask of 0 has nobody
 pub nobody-known : (table : List ℕ) (a : ℕ) (actors : List Actor) (comms queues : List ℕ) → Known table 0 a actors comms queues
-nobody-known table a actors comms queues i h ne log ends =
+nobody-known table a actors comms queues i h ne log ends journal =
     let none : bitOf 0 i ≡ 0 = ap (λ (x : ℕ). x % 2) (zero-div (2 ^ i)) in
     absurd (omega arith)
 
@@ -105,9 +105,9 @@ all-end f n a h = let e : n - a ≡ 0 = omega arith in ap (λ (c : ℕ). all f c
 
 -- ---- the answer
 
-module _ (table : List ℕ) (actors : List Actor) (comms queues log ends : List ℕ) where
+module _ (table : List ℕ) (actors : List Actor) (comms queues log ends journal : List ℕ) where
   abbrev s : Site
-  s = siteWith actors comms queues log ends
+  s = siteWith actors comms queues log ends journal
 
   pub answer-right : (r : Readiness) → r .mask ≡ readyMask table s → r .count ≡ ones (r .mask)
       → endingAs (r .ending) ≡ endingOf (everyoneFinished table (actorsOf table) actors) (r .count) → readinessOf r ≡ readyAnswer table s

@@ -16,9 +16,9 @@ use Rattle.model.specs.ReadyMask.{bitOf}
 use Rattle.state.specs.State.{mailOf, queuesOf, siteOf, freshActor, CommsRoom, QueueRoom, EightCells, nextOf, seenFrom}
 use Rattle.state.specs.declared.Actor.{Actor}
 
--- the state, with the ports' logs, in which readiness does not look
-abbrev pub siteWith : List Actor → (comms queues log ends : List ℕ) → Site
-siteWith actors comms queues log ends = siteOf actors comms log ends queues
+-- the state, with the ports' logs and the journal, in which readiness does not look
+abbrev pub siteWith : List Actor → (comms queues log ends journal : List ℕ) → Site
+siteWith actors comms queues log ends journal = siteOf actors comms log ends queues journal
 
 -- what a look at one actor with the record r may rely on
 pub record Looked (table : List ℕ) (a : ℕ) (r : Actor) (comms queues : List ℕ) : Type 0 where
@@ -38,7 +38,7 @@ pub record Answerable (table : List ℕ) (actors : List Actor) (comms queues : L
 -- the actors of a mask are ready, but for actor a
 abbrev pub Known : List ℕ → (mask a : ℕ) → List Actor → (comms queues : List ℕ) → Type 0
 Known table mask a actors comms queues =
-    (i : ℕ) → bitOf mask i ≡ 1 → i ≢ a → (log ends : List ℕ) → ready table (siteWith actors comms queues log ends) i ≡ true
+    (i : ℕ) → bitOf mask i ≡ 1 → i ≢ a → (log ends journal : List ℕ) → ready table (siteWith actors comms queues log ends journal) i ≡ true
 
 -- what the next step of an actor with the record r is
 abbrev pub stepFrom : List ℕ → ℕ → Actor → (comms queues log ends : List ℕ) → NextStep

@@ -20,8 +20,8 @@ use table::Action;
 // The number of actors that are ready is the number of ones in their mask.
 pub fn answer(table: &[u8], actors: [Actor; 8], comms: &[u64; 256], queues: &[u8; 72]) -> Readiness
     requires { ⌜ Answerable (now table) actors (now comms) (now queues) ⌝ }
-    ensures { λ r. ⌜ ((log ends : List ℕ) → readinessOf r
-        ≡ readyAnswer (now (table .entry)) (siteWith actors (now (comms .entry)) (now (queues .entry)) log ends)) ⌝ }
+    ensures { λ r. ⌜ ((log ends journal : List ℕ) → readinessOf r
+        ≡ readyAnswer (now (table .entry)) (siteWith actors (now (comms .entry)) (now (queues .entry)) log ends journal)) ⌝ }
 {
     let n = table::access::actors(table);
     let mask = ready_mask(table, n, 0, 0, actors, comms, queues);
@@ -60,8 +60,8 @@ pub fn ready_mask(
 ) -> u32
     requires { ⌜ Answerable (now table) actors (now comms) (now queues) × (n ≡ actorsOf (now table))
         × Known (now table) known a actors (now comms) (now queues) ⌝ }
-    ensures { λ m. ⌜ ((log ends : List ℕ) → m
-        ≡ readyMask (now (table .entry)) (siteWith actors (now (comms .entry)) (now (queues .entry)) log ends)) ⌝ }
+    ensures { λ m. ⌜ ((log ends journal : List ℕ) → m
+        ≡ readyMask (now (table .entry)) (siteWith actors (now (comms .entry)) (now (queues .entry)) log ends journal)) ⌝ }
 {
     let mut m = 0;
     let mut i = n;
@@ -140,23 +140,10 @@ pub fn next_step(
     let k = r.position;
     let x = table::within::action(table, a, k);
     match x {
-        Action::Set { cell: _, value: _ } => NextStep::Taken,
         Action::Add { cell, other } => r.adding(cell, other),
-        Action::Lesser { cell: _, other: _ } => NextStep::Taken,
-        Action::Send {
-            mailbox: _,
-            cell: _,
-        } => NextStep::Taken,
-        Action::Receive {
-            mailbox: _,
-            cell: _,
-        } => NextStep::Taken,
-        Action::TestAny { result: _, list: _ } => NextStep::Taken,
         Action::WaitAny { result: _, list } => look::awaited(look::communications(comms, a, list)),
-        Action::Lock { mutex: _ } => NextStep::Taken,
-        Action::Unlock { mutex: _ } => NextStep::Taken,
-        Action::MutexTest { result: _, list: _ } => NextStep::Taken,
         Action::MutexWait { result: _, list } => look::awaited(look::mutexes(queues, a, list)),
+        _ => NextStep::Taken,
     }
 }
 

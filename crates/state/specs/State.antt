@@ -3,13 +3,13 @@
 use Prim.Native.Nat.{ℕ, _+_, _-_, _*_, _/_, _%_, _^_, _<_, _≤_}
 use mathlib.Core.Path.{_≡_}
 use mathlib.Core.Bool.{cond}
-use mathlib.Core.List.{List, map}
+use mathlib.Core.List.{List, [], map}
 use lib.Dec.{eqb, ltb}
 use lib.ListN.{length, getD, take, drop, replicate}
 use Rattle.table.specs.declared.Action.{Action}
 use Rattle.table.specs.Decode.{actionOf}
 use Rattle.trace.specs.Machine.{Name}
-use Rattle.model.specs.Site.{Actor as Record, Side, sends, receives, Port, Comm, unposted, pending, done, Mail, Site}
+use Rattle.model.specs.Site.{Actor as Record, Side, sends, receives, Port, Comm, unposted, pending, done, Mail, Entry, Site}
 use Rattle.model.specs.Step as Step
 use Rattle.names.specs.InByte.{nameOf}
 use Rattle.state.specs.declared.Actor.{Actor}
@@ -57,6 +57,17 @@ sizeIn queues m = getD queues (9 * m) 0
 abbrev pub queuesOf : (queues : List ℕ) → ℕ → List ℕ
 queuesOf queues m = take (sizeIn queues m) (drop (9 * m + 1) queues)
 
+-- an entry of the journal in one number: its step's name, and 256 · value
+abbrev pub entryOf : ℕ → Entry
+entryOf e = record { step = nameOf (e % 256); value = e / 256 }
+
+-- the journal has the number of its entries, then the entries
+abbrev pub notedIn : (journal : List ℕ) → ℕ
+notedIn journal = getD journal 0 0
+
+abbrev pub journalOf : (journal : List ℕ) → List Entry
+journalOf journal = map entryOf (take (notedIn journal) (drop 1 journal))
+
 -- the actors' records
 abbrev pub freshActor : Actor
 freshActor = record { position = 0; cells = replicate 8 0 }
@@ -67,9 +78,9 @@ recordOf r = record { position = r .position; cells = r .cells }
 abbrev pub recordsOf : List Actor → ℕ → Record
 recordsOf actors a = recordOf (getD actors a freshActor)
 
-abbrev pub siteOf : List Actor → (comms log ends queues : List ℕ) → Site
-siteOf actors comms log ends queues =
-    record { actor = recordsOf actors; mail = mailOf comms log ends; queue = queuesOf queues }
+abbrev pub siteOf : List Actor → (comms log ends queues journal : List ℕ) → Site
+siteOf actors comms log ends queues journal =
+    record { actor = recordsOf actors; mail = mailOf comms log ends; queue = queuesOf queues; journal = journalOf journal }
 
 -- the communications have their array's length, and each value fits 32 bits
 pub record CommsRoom (comms : List ℕ) : Type 0 where
@@ -92,6 +103,11 @@ pub record QueueRoom (queues : List ℕ) : Type 0 where
   pub long : length queues ≡ 72
   pub bounded : (m : ℕ) → sizeIn queues m ≤ 8
 
+-- the journal's array has its length, and room for each action of the largest table
+pub record JournalRoom (journal : List ℕ) : Type 0 where
+  pub long : length journal ≡ 257
+  pub bounded : notedIn journal ≤ 256
+
 -- each actor's position fits a byte
 abbrev pub Positions : List Actor → Type 0
 Positions actors = (a : ℕ) → recordsOf actors a .position < 256
@@ -102,9 +118,9 @@ Positions actors = (a : ℕ) → recordsOf actors a .position < 256
 abbrev pub EightCells : Actor → Type 0
 EightCells r = length (r .cells) ≡ 8
 
--- the site as a step of one actor sees it: the others' records play no part
+-- the site as a step of one actor sees it: the others' records and the journal play no part
 abbrev pub seenFrom : Actor → Mail → (ℕ → List ℕ) → Site
-seenFrom r mail queue = record { actor = λ a. recordOf r; mail = mail; queue = queue }
+seenFrom r mail queue = record { actor = λ a. recordOf r; mail = mail; queue = queue; journal = [] }
 
 -- the actor's next action
 abbrev pub nextOf : List ℕ → ℕ → Actor → Action

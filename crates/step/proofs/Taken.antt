@@ -2,27 +2,29 @@
 -- Assumes nothing.
 use mathlib.Core.Path.{_≡_, refl, _∙_, ap, ap₂, sym, subst}
 use mathlib.Core.Bool.{Bool}
-use mathlib.Core.List.{List}
+use mathlib.Core.List.{List, [], _∷_, _++_}
 use Prim.Native.Nat.{ℕ, _+_, _*_, _<_, _≤_}
 use native.Mathlib.Omega.{arith}
-use lib.ListN.{length, length-set}
+use lib.ListN.{getD}
 use Rattle.table.specs.declared.Action.{Action}
-use Rattle.table.specs.declared.Action.the-variants.{Set, Add, Lesser, Send, Receive, TestAny, WaitAny, Lock, Unlock, MutexTest, MutexWait}
+use Rattle.table.specs.declared.Action.the-variants.{Note}
 use Rattle.table.specs.declared.Numbers.{Numbers}
 use Rattle.table.specs.Format.{countOf}
 use Rattle.table.specs.Decode.{actionOf}
 use Rattle.table.specs.Promise.{InRange, Listing, LowerPost, number}
 use Rattle.trace.specs.Machine.{Name}
-use Rattle.model.specs.Site.{Mail, Port, name}
-use Rattle.model.specs.Views.{Post, silent, mails, posts, looks, sent, listed, pickUp}
+use Rattle.model.specs.Site.{Mail, Entry, Port, name}
+use Rattle.model.specs.Views.{Post, silent, mails, posts, looks, sent, listed}
 use Rattle.model.specs.Mail.{mailing, meet}
 use Rattle.model.specs.Mutex.{queueing}
-use Rattle.model.specs.Local.{Seen, unseen, seen, first, see, pickUpSeen, cellsAfter}
+use Rattle.model.specs.Journal.{noting}
+use Rattle.model.specs.Local.{Seen, unseen, seen, first, see, cellsAfter}
 use Rattle.model.specs.Step.{taken, stepOf}
 use Rattle.names.specs.InByte.{nameOf}
-use Rattle.state.specs.State.{tailIn, mailOf, queuesOf, MailRoom, QueueRoom, nextOf, seenFrom, stepAs}
+use Rattle.state.specs.State.{tailIn, mailOf, queuesOf, journalOf, MailRoom, QueueRoom, JournalRoom, nextOf, seenFrom, stepAs}
 use Rattle.step.specs.Parts.{Steppable, StepTaken, After, Picks, SmallPlace}
 use Rattle.state.specs.declared.Actor.{Actor}
+use Rattle.state.specs.declared.NextStep.the-variants.{Taken}
 use Rattle.step.specs.declared.Stepped.{Stepped}
 use Rattle.names.proofs.InByte.{name-byte}
 use Rattle.step.proofs.Steps.{record-after}
@@ -41,25 +43,8 @@ pub small-place : (test : ℕ → Bool) (value : ℕ → ℕ) (l : Numbers) → 
 small-place test value l most =
     has-place (first test value 1 (listed l)) (listed-has test value (λ place n. place ≤ 4) l most (λ i below. omega arith))
 
-pub pick-length : (own : ℕ → Action) (s : Seen) (cells : List ℕ) → length (pickUpSeen own s cells) ≡ length cells
-pick-length own unseen cells = refl
-pick-length own (seen place n v) cells = go (own n)
-  where
-    go : (x : Action) → length (pickUp x v cells) ≡ length cells
-    go (Set cell value) = refl
-    go (Add cell other) = refl
-    go (Lesser cell other) = refl
-    go (Send mailbox cell) = refl
-    go (Receive mailbox cell) = simp length-set
-    go (TestAny result list) = refl
-    go (WaitAny result list) = refl
-    go (Lock mutex) = refl
-    go (Unlock mutex) = refl
-    go (MutexTest result list) = refl
-    go (MutexWait result list) = refl
-
-module _ {table : List ℕ} {a : ℕ} {r : Actor} {comms log ends queues : List ℕ}
-    (S : Steppable table a r comms log ends queues) where
+module _ {table : List ℕ} {a : ℕ} {r : Actor} {comms log ends queues journal : List ℕ}
+    (S : Steppable table a r comms log ends queues journal) where
   pub ranged : (x : Action) → nextOf table a r ≡ x → InRange table a (r .position) x
   ranged x e = subst (InRange table a (r .position)) e (S .accepted .in-range a (r .position) (S .actor) (S .unfinished))
 
@@ -87,7 +72,7 @@ module _ {table : List ℕ} {a : ℕ} {r : Actor} {comms log ends queues : List 
   pub quiet : (x : Action) (s : Stepped) → posts x ≡ silent
       → stepAs (s .next) ≡ stepOf table (seenFrom r (mailOf comms log ends) (queuesOf queues)) a x
       → After s (r .position + 1) (cellsAfter (actionOf table a) x (see (seenFrom r (mailOf comms log ends) (queuesOf queues)) a (looks x)) (r .cells))
-      → StepTaken table a x r comms log ends queues comms log ends queues s
+      → StepTaken table a x r comms log ends queues journal comms log ends queues journal s
   quiet x s none next after =
       record {
         next-right = next;
@@ -95,9 +80,11 @@ module _ {table : List ℕ} {a : ℕ} {r : Actor} {comms log ends queues : List 
           record-next = record-after (actionOf table a) x (see (seenFrom r (mailOf comms log ends) (queuesOf queues)) a (looks x)) r (s .actor) (after t .0) (after t .1);
           mail-next = sym (ap (λ (p : Post). mailing p (name a (r .position)) (sent x (r .cells)) (mailOf comms log ends)) none);
           queue-next = sym (ap (λ (p : Post). queueing p a (queuesOf queues)) none);
+          journal-next = sym (ap (λ (p : Post). noting p (name a (r .position)) (sent x (r .cells)) (journalOf journal)) none);
         };
         mail-room = S .mail-room;
         queue-room = S .queue-room;
+        journal-room = S .journal-room;
         grown = λ n. omega arith;
       }
 
@@ -111,7 +98,7 @@ module _ {table : List ℕ} {a : ℕ} {r : Actor} {comms log ends queues : List 
       → mailOf comms′ log′ ends′ ≡ meet port (name a (r .position)) v (mailOf comms log ends)
       → MailRoom comms′ log′ ends′ → ((n : ℕ) → tailIn ends′ n ≤ tailIn ends n + 1)
       → After s (r .position + 1) (cellsAfter (actionOf table a) x (see (seenFrom r (mailOf comms log ends) (queuesOf queues)) a (looks x)) (r .cells))
-      → StepTaken table a x r comms log ends queues comms′ log′ ends′ queues s
+      → StepTaken table a x r comms log ends queues journal comms′ log′ ends′ queues journal s
   posted x s port {comms′} {log′} {ends′} v mailed carries next mail room grown after =
       record {
         next-right = next;
@@ -119,9 +106,11 @@ module _ {table : List ℕ} {a : ℕ} {r : Actor} {comms log ends queues : List 
           record-next = record-after (actionOf table a) x (see (seenFrom r (mailOf comms log ends) (queuesOf queues)) a (looks x)) r (s .actor) (after t .0) (after t .1);
           mail-next = mail ∙ sym (ap₂ (λ (p : Post) (w : ℕ). mailing p (name a (r .position)) w (mailOf comms log ends)) mailed carries);
           queue-next = sym (ap (λ (p : Post). queueing p a (queuesOf queues)) mailed);
+          journal-next = sym (ap (λ (p : Post). noting p (name a (r .position)) (sent x (r .cells)) (journalOf journal)) mailed);
         };
         mail-room = room;
         queue-room = S .queue-room;
+        journal-room = S .journal-room;
         grown = grown;
       }
 
@@ -129,11 +118,12 @@ module _ {table : List ℕ} {a : ℕ} {r : Actor} {comms log ends queues : List 
   pub queued : (x : Action) (s : Stepped) (p : Post) {queues′ : List ℕ} → posts x ≡ p
       → stepAs (s .next) ≡ stepOf table (seenFrom r (mailOf comms log ends) (queuesOf queues)) a x
       → ((me : Name) (v : ℕ) (mail : Mail) → mailing p me v mail ≡ mail)
+      → ((me : Name) (v : ℕ) (entries : List Entry) → noting p me v entries ≡ entries)
       → queuesOf queues′ ≡ queueing p a (queuesOf queues)
       → QueueRoom queues′
       → After s (r .position + 1) (cellsAfter (actionOf table a) x (see (seenFrom r (mailOf comms log ends) (queuesOf queues)) a (looks x)) (r .cells))
-      → StepTaken table a x r comms log ends queues comms log ends queues′ s
-  queued x s p {queues′} post next unmailed changed room after =
+      → StepTaken table a x r comms log ends queues journal comms log ends queues′ journal s
+  queued x s p {queues′} post next unmailed unnoted changed room after =
       record {
         next-right = next;
         took = λ t. record {
@@ -143,16 +133,44 @@ module _ {table : List ℕ} {a : ℕ} {r : Actor} {comms log ends queues : List 
               (ap (λ (q : Post). mailing q (name a (r .position)) (sent x (r .cells)) (mailOf comms log ends)) post
               ∙ unmailed (name a (r .position)) (sent x (r .cells)) (mailOf comms log ends));
           queue-next = changed ∙ sym (ap (λ (q : Post). queueing q a (queuesOf queues)) post);
+          journal-next =
+              sym
+              (ap (λ (q : Post). noting q (name a (r .position)) (sent x (r .cells)) (journalOf journal)) post
+              ∙ unnoted (name a (r .position)) (sent x (r .cells)) (journalOf journal));
         };
         mail-room = S .mail-room;
         queue-room = room;
+        journal-room = S .journal-room;
+        grown = λ n. omega arith;
+      }
+
+  -- a Note changes the journal alone
+  pub noted : (cell : ℕ) (s : Stepped) {journal′ : List ℕ} → s .next ≡ Taken
+      → journalOf journal′ ≡ journalOf journal ++ (record { step = nameOf (32 * a + r .position); value = getD (r .cells) cell 0 } ∷ [])
+      → JournalRoom journal′ → After s (r .position + 1) (r .cells)
+      → StepTaken table a (Note cell) r comms log ends queues journal comms log ends queues journal′ s
+  unfolding cellsAfter
+  noted cell s {journal′} next changed room after =
+      record {
+        next-right = ap stepAs next;
+        took = λ t. record {
+          record-next = record-after (actionOf table a) (Note cell) unseen r (s .actor) (after t .0) (after t .1);
+          mail-next = refl;
+          queue-next = refl;
+          journal-next =
+              changed
+              ∙ ap (λ (me : Name). journalOf journal ++ (record { step = me; value = getD (r .cells) cell 0 } ∷ [])) (name-byte a (r .position) position-small);
+        };
+        mail-room = S .mail-room;
+        queue-room = S .queue-room;
+        journal-room = room;
         grown = λ n. omega arith;
       }
 
 -- a step of the action x is a step of the next action, which x is
-pub of-next : {table : List ℕ} {a : ℕ} {r : Actor} {comms log ends queues comms′ log′ ends′ queues′ : List ℕ} {s : Stepped}
+pub of-next : {table : List ℕ} {a : ℕ} {r : Actor} {comms log ends queues journal comms′ log′ ends′ queues′ journal′ : List ℕ} {s : Stepped}
     (x : Action) → nextOf table a r ≡ x
-    → StepTaken table a x r comms log ends queues comms′ log′ ends′ queues′ s
-    → StepTaken table a (nextOf table a r) r comms log ends queues comms′ log′ ends′ queues′ s
-of-next {table} {a} {r} {comms} {log} {ends} {queues} {comms′} {log′} {ends′} {queues′} {s} x e t =
-    subst (λ (y : Action). StepTaken table a y r comms log ends queues comms′ log′ ends′ queues′ s) (sym e) t
+    → StepTaken table a x r comms log ends queues journal comms′ log′ ends′ queues′ journal′ s
+    → StepTaken table a (nextOf table a r) r comms log ends queues journal comms′ log′ ends′ queues′ journal′ s
+of-next {table} {a} {r} {comms} {log} {ends} {queues} {journal} {comms′} {log′} {ends′} {queues′} {journal′} {s} x e t =
+    subst (λ (y : Action). StepTaken table a y r comms log ends queues journal comms′ log′ ends′ queues′ journal′ s) (sym e) t

@@ -28,11 +28,12 @@ pub fn step(
     log: &mut [u8; 4096],
     ends: &mut [usize; 32],
     queues: &mut [u8; 72],
+    journal: &mut [usize; 257],
 ) -> Stepped
-    requires { ⌜ Steppable (now table) a r (now comms) (now log) (now ends) (now queues) ⌝ }
+    requires { ⌜ Steppable (now table) a r (now comms) (now log) (now ends) (now queues) (now journal) ⌝ }
     ensures { λ s. ⌜ StepTaken (now (table .entry)) a (nextOf (now (table .entry)) a r) r
-        (now (comms .entry)) (now (log .entry)) (now (ends .entry)) (now (queues .entry))
-        (now (comms .exit)) (now (log .exit)) (now (ends .exit)) (now (queues .exit)) s ⌝ }
+        (now (comms .entry)) (now (log .entry)) (now (ends .entry)) (now (queues .entry)) (now (journal .entry))
+        (now (comms .exit)) (now (log .exit)) (now (ends .exit)) (now (queues .exit)) (now (journal .exit)) s ⌝ }
 {
     let k = r.position;
     let x = table::within::action(table, a, k);
@@ -103,6 +104,14 @@ pub fn step(
                 actor: told(r, result, seen),
             }
         }
+        Action::Note { cell } => {
+            let value = r.cells[cell];
+            journal::add(journal, 32 * a + k, value);
+            Stepped {
+                next: NextStep::Taken,
+                actor: r.next(),
+            }
+        }
     }
 }
 
@@ -138,19 +147,7 @@ fn picked(table: &[u8], a: usize, r: Actor, seen: Seen) -> Actor
             let x = table::within::action(table, a, number);
             match x {
                 Action::Receive { mailbox: _, cell } => r.put(cell, value),
-                Action::Set { cell: _, value: _ } => r,
-                Action::Add { cell: _, other: _ } => r,
-                Action::Lesser { cell: _, other: _ } => r,
-                Action::Send {
-                    mailbox: _,
-                    cell: _,
-                } => r,
-                Action::TestAny { result: _, list: _ } => r,
-                Action::WaitAny { result: _, list: _ } => r,
-                Action::Lock { mutex: _ } => r,
-                Action::Unlock { mutex: _ } => r,
-                Action::MutexTest { result: _, list: _ } => r,
-                Action::MutexWait { result: _, list: _ } => r,
+                _ => r,
             }
         }
     }

@@ -1,15 +1,32 @@
--- `lead::was_quiet` meets its contract. Assumes nothing.
-use mathlib.Core.Path.{_≡_, _∙_, ap, sym}
+-- `lead::was_quiet` meets its contract: who waits, waits for what a Send, a Receive, a Lock or an Unlock posts.
+-- Assumes nothing.
+use mathlib.Core.Path.{_≡_, _∙_, ap, sym, subst}
+use mathlib.Core.Logic.{inl, inr}
 use mathlib.Core.Bool.{false, true, false≢true}
+use mathlib.Core.List.{[], _∷_}
 use native.Mathlib.Omega.{arith}
 use borrow.Author.Needs.{needs}
+use Rattle.table.specs.declared.Action.{Action}
+use Rattle.table.specs.declared.Action.the-variants.{Send, Receive, Lock, Unlock}
+use Rattle.table.proofs.OtherKinds.{other-kind}
 use Rattle.model.specs.Views.{posts}
+use Rattle.model.proofs.ByKind.{Posting, quiet, sends-to, receives-from, locks, unlocks, writes-down, posting}
+use Rattle.lead.specs.Parts.{Unheard}
 use Rattle.lead.proofs.was_quiet.Statement.{statement}
 use Rattle.lead.proofs.was_quiet.Tie as tie
 
 -- nothing is said where the answer is no
 no : {A : Type 0} → false ≡ true → A
 no h = absurd (false≢true h)
+
+-- an action of another kind than those four
+unheard : (s : tie.At-match-keys5) → Posting (s .before .action .result) → Unheard (posts (s .before .action .result))
+unheard s (quiet q) = inl (q .posts-none)
+unheard s (sends-to m c e) = absurd (other-kind (3 ∷ 4 ∷ 7 ∷ 8 ∷ []) (s .match .keys5) (Send m c) tt e)
+unheard s (receives-from m c e) = absurd (other-kind (3 ∷ 4 ∷ 7 ∷ 8 ∷ []) (s .match .keys5) (Receive m c) tt e)
+unheard s (locks m e) = absurd (other-kind (3 ∷ 4 ∷ 7 ∷ 8 ∷ []) (s .match .keys5) (Lock m) tt e)
+unheard s (unlocks m e) = absurd (other-kind (3 ∷ 4 ∷ 7 ∷ 8 ∷ []) (s .match .keys5) (Unlock m) tt e)
+unheard s (writes-down c e) = inr (ap posts e)
 
 returns : tie.Need-returns
 returns c = no
@@ -29,59 +46,23 @@ enum-told-3 c = search needs
 enum-told-4 : tie.Need-enum-told-4
 enum-told-4 c = search needs
 
-enum-told-5 : tie.Need-enum-told-5
-enum-told-5 c = search needs
-
-enum-told-6 : tie.Need-enum-told-6
-enum-told-6 c = search needs
-
-enum-told-7 : tie.Need-enum-told-7
-enum-told-7 c = search needs
-
-enum-told-8 : tie.Need-enum-told-8
-enum-told-8 c = search needs
-
-enum-told-9 : tie.Need-enum-told-9
-enum-told-9 c = search needs
-
-enum-told-10 : tie.Need-enum-told-10
-enum-told-10 c = search needs
-
-enum-told-11 : tie.Need-enum-told-11
-enum-told-11 c = search needs
-
 returns-2 : tie.Need-returns-2
-returns-2 c = λ h. (omega (arith, c .before .before .before .if1 .left), ap posts (sym (c .before .before .action .ensures) ∙ c .enum-told .given .1))
+returns-2 c = no
 
 returns-3 : tie.Need-returns-3
-returns-3 c = λ h. (omega (arith, c .before .before .before .if1 .left), ap posts (sym (c .before .before .action .ensures) ∙ c .enum-told2 .given .1))
+returns-3 c = no
 
 returns-4 : tie.Need-returns-4
-returns-4 c = λ h. (omega (arith, c .before .before .before .if1 .left), ap posts (sym (c .before .before .action .ensures) ∙ c .enum-told3 .given .1))
+returns-4 c = no
 
 returns-5 : tie.Need-returns-5
 returns-5 c = no
 
 returns-6 : tie.Need-returns-6
-returns-6 c = no
-
-returns-7 : tie.Need-returns-7
-returns-7 c = λ h. (omega (arith, c .before .before .before .if1 .left), ap posts (sym (c .before .before .action .ensures) ∙ c .enum-told6 .given .1))
-
-returns-8 : tie.Need-returns-8
-returns-8 c = λ h. (omega (arith, c .before .before .before .if1 .left), ap posts (sym (c .before .before .action .ensures) ∙ c .enum-told7 .given .1))
-
-returns-9 : tie.Need-returns-9
-returns-9 c = no
-
-returns-10 : tie.Need-returns-10
-returns-10 c = no
-
-returns-11 : tie.Need-returns-11
-returns-11 c = λ h. (omega (arith, c .before .before .before .if1 .left), ap posts (sym (c .before .before .action .ensures) ∙ c .enum-told10 .given .1))
-
-returns-12 : tie.Need-returns-12
-returns-12 c = λ h. (omega (arith, c .before .before .before .if1 .left), ap posts (sym (c .before .before .action .ensures) ∙ c .enum-told11 .given .1))
+returns-6 c = λ h. (
+  omega (arith, c .before .before .if1 .left),
+  subst (λ (x : Action). Unheard (posts x)) (c .before .action .ensures) (unheard c (posting (c .before .action .result))),
+)
 
 pub was-quiet-spec : {M : Type 1} → statement M
 was-quiet-spec =
@@ -93,21 +74,8 @@ was-quiet-spec =
     enum-told-2
     enum-told-3
     enum-told-4
-    enum-told-5
-    enum-told-6
-    enum-told-7
-    enum-told-8
-    enum-told-9
-    enum-told-10
-    enum-told-11
     returns-2
     returns-3
     returns-4
     returns-5
-    returns-6
-    returns-7
-    returns-8
-    returns-9
-    returns-10
-    returns-11
-    returns-12)
+    returns-6)

@@ -48,7 +48,7 @@ loop-holds : tie.Need-loop-holds Inv-loop μ-loop
 loop-holds c =
     let s = c .before .before .before .before in
     let x = s .args in (
-      playing-start _ _ _ _ _ _ _ (s .pre .accepted) (s .pre .zeros) (ap (replicate 8) (c .fresh .ensures)),
+      playing-start _ _ _ _ _ _ _ _ (s .pre .accepted) (s .pre .empty) (ap (replicate 8) (c .fresh .ensures)),
       named-start _ _ _ (s .pre .names-long),
       λ e. record {
         same-rule = refl;
@@ -113,8 +113,8 @@ returns c =
 enum-known-due : tie.Need-enum-known-due Inv-loop μ-loop
 enum-known-due c = search needs
 
-cast-t40 : tie.Need-cast-t40 Inv-loop μ-loop
-cast-t40 c = omega (arith, entries-so-far (at (due (c .before .before)) .loop .inv .0))
+cast-t41 : tie.Need-cast-t41 Inv-loop μ-loop
+cast-t41 c = omega (arith, entries-so-far (at (due (c .before .before)) .loop .inv .0))
 
 returns-2 : tie.Need-returns-2 Inv-loop μ-loop
 returns-2 c =
@@ -133,8 +133,8 @@ array-copy-out-r c = omega (arith, at (due (found c)) .loop .inv .0 .actors-long
 actions-requires : tie.Need-actions-requires Inv-loop μ-loop
 actions-requires c κs = search needs
 
-cast-t48 : tie.Need-cast-t48 Inv-loop μ-loop
-cast-t48 c = omega (arith, entries-so-far (at (due (found (c .before .before .before))) .loop .inv .0))
+cast-t49 : tie.Need-cast-t49 Inv-loop μ-loop
+cast-t49 c = omega (arith, entries-so-far (at (due (found (c .before .before .before))) .loop .inv .0))
 
 returns-3 : tie.Need-returns-3 Inv-loop μ-loop
 returns-3 c =
@@ -146,7 +146,7 @@ returns-3 c =
     (finished-as (l .inv .0) (here .0) (actorAt d) (here .1) (recordAt d) (own-record e) (in-table e) (omega (arith, c .before .actions .ensures, c .if4 .taken)))
 
 step-requires : tie.Need-step-requires Inv-loop μ-loop
-step-requires c κs = can-step (c .before .before .before .before)
+step-requires c κs = can-step (c .before .before .before .before .before)
 
 enum-told-2 : tie.Need-enum-told-2 Inv-loop μ-loop
 enum-told-2 c = search needs
@@ -219,8 +219,8 @@ loop-again c =
 enum-told-3 : tie.Need-enum-told-3 Inv-loop μ-loop
 enum-told-3 c = search needs
 
-cast-t63 : tie.Need-cast-t63 Inv-loop μ-loop
-cast-t63 c = omega (arith, entries-so-far (at (due (dueBefore (c .before .before))) .loop .inv .0))
+cast-t65 : tie.Need-cast-t65 Inv-loop μ-loop
+cast-t65 c = omega (arith, entries-so-far (at (due (dueBefore (c .before .before))) .loop .inv .0))
 
 returns-4 : tie.Need-returns-4 Inv-loop μ-loop
 returns-4 c =
@@ -236,8 +236,8 @@ returns-4 c =
 enum-told-4 : tie.Need-enum-told-4 Inv-loop μ-loop
 enum-told-4 c = search needs
 
-cast-t67 : tie.Need-cast-t67 Inv-loop μ-loop
-cast-t67 c = omega (arith, entries-so-far (at (due (dueBefore (c .before .before))) .loop .inv .0))
+cast-t69 : tie.Need-cast-t69 Inv-loop μ-loop
+cast-t69 c = omega (arith, entries-so-far (at (due (dueBefore (c .before .before))) .loop .inv .0))
 
 returns-5 : tie.Need-returns-5 Inv-loop μ-loop
 returns-5 c =
@@ -272,12 +272,12 @@ turns-spec =
     enum-told
     returns
     enum-known-due
-    cast-t40
+    cast-t41
     returns-2
     mul-r
     array-copy-out-r
     actions-requires
-    cast-t48
+    cast-t49
     returns-3
     step-requires
     enum-told-2
@@ -291,9 +291,9 @@ turns-spec =
     loop-less
     loop-again
     enum-told-3
-    cast-t63
+    cast-t65
     returns-4
     enum-told-4
-    cast-t67
+    cast-t69
     returns-5
     returns-6)

@@ -26,28 +26,28 @@ all-finished-requires c κs =
 
 returns : tie.Need-returns
 returns c =
-    λ log ends.
-    answer-right (c .before .before .before .before .before .args .table .now) (c .before .before .before .before .before .args .actors) (c .before .before .before .before .before .args .comms .now) (c .before .before .before .before .before .args .queues .now) log ends
+    λ log ends journal.
+    answer-right (c .before .before .before .before .before .args .table .now) (c .before .before .before .before .before .args .actors) (c .before .before .before .before .before .args .comms .now) (c .before .before .before .before .before .args .queues .now) log ends journal
     (record { mask = c .before .before .ready-mask .result; count = ones (c .before .before .ready-mask .result); ending = case.Finished })
-    (c .before .before .ready-mask .ensures log ends)
+    (c .before .before .ready-mask .ensures log ends journal)
     refl
     (rw (sym (c .before .all-finished .ensures ∙ ap (λ (n : ℕ). everyoneFinished (c .before .before .before .before .before .args .table .now) n (c .before .before .before .before .before .args .actors)) (c .before .before .before .actors .ensures)) ∙ c .if1 .taken))
 
 returns-2 : tie.Need-returns-2
 returns-2 c =
-    λ log ends.
-    answer-right (c .before .before .before .before .before .before .args .table .now) (c .before .before .before .before .before .before .args .actors) (c .before .before .before .before .before .before .args .comms .now) (c .before .before .before .before .before .before .args .queues .now) log ends
+    λ log ends journal.
+    answer-right (c .before .before .before .before .before .before .args .table .now) (c .before .before .before .before .before .before .args .actors) (c .before .before .before .before .before .before .args .comms .now) (c .before .before .before .before .before .before .args .queues .now) log ends journal
     (record { mask = c .before .before .before .ready-mask .result; count = ones (c .before .before .before .ready-mask .result); ending = case.Stuck })
-    (c .before .before .before .ready-mask .ensures log ends)
+    (c .before .before .before .ready-mask .ensures log ends journal)
     refl
     (rw (sym (c .before .before .all-finished .ensures ∙ ap (λ (n : ℕ). everyoneFinished (c .before .before .before .before .before .before .args .table .now) n (c .before .before .before .before .before .before .args .actors)) (c .before .before .before .before .actors .ensures)) ∙ c .before .if1 .left, eq-eqb _ _ (c .if2 .taken)))
 
 returns-3 : tie.Need-returns-3
 returns-3 c =
-    λ log ends.
-    answer-right (c .before .before .before .before .before .before .args .table .now) (c .before .before .before .before .before .before .args .actors) (c .before .before .before .before .before .before .args .comms .now) (c .before .before .before .before .before .before .args .queues .now) log ends
+    λ log ends journal.
+    answer-right (c .before .before .before .before .before .before .args .table .now) (c .before .before .before .before .before .before .args .actors) (c .before .before .before .before .before .before .args .comms .now) (c .before .before .before .before .before .before .args .queues .now) log ends journal
     (record { mask = c .before .before .before .ready-mask .result; count = ones (c .before .before .before .ready-mask .result); ending = case.Going })
-    (c .before .before .before .ready-mask .ensures log ends)
+    (c .before .before .before .ready-mask .ensures log ends journal)
     refl
     (rw (sym (c .before .before .all-finished .ensures ∙ ap (λ (n : ℕ). everyoneFinished (c .before .before .before .before .before .before .args .table .now) n (c .before .before .before .before .before .before .args .actors)) (c .before .before .before .before .actors .ensures)) ∙ c .before .if1 .left, ne-eqb _ _ (c .if2 .left)))
 

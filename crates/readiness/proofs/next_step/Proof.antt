@@ -2,11 +2,14 @@
 -- Assumes nothing.
 use mathlib.Core.Path.{_≡_, refl, _∙_, ap, sym, subst}
 use mathlib.Core.Bool.{cond}
-use mathlib.Core.List.{List}
+use mathlib.Core.List.{List, [], _∷_}
 use native.Mathlib.Omega.{arith}
 use borrow.Author.Needs.{needs}
 use Rattle.table.specs.declared.Action.{Action}
+use Rattle.table.specs.declared.Action.the-variants.{Add, WaitAny, MutexWait}
 use Rattle.table.specs.Promise.{InRange}
+use Rattle.table.proofs.OtherKinds.{other-kind}
+use Rattle.model.proofs.NextSteps.{always-taken}
 use Rattle.model.specs.Local.{Seen, isSeen}
 use Rattle.model.specs.Step.{NextStep, taken, waiting, stepOf}
 use Rattle.state.specs.State.{mailOf, queuesOf, seenFrom}
@@ -33,27 +36,12 @@ module _ (s : tie.After-action) (x : Action) (e : s .action .result ≡ x) where
 action-requires : tie.Need-action-requires
 action-requires c κs = let L = c .before .pre in (L .0 .accepted, L .0 .actor, L .1)
 
-enum-told : tie.Need-enum-told
-enum-told c = search needs
-
 enum-known-x : tie.Need-enum-known-x
 enum-known-x c = search needs
 
 adding-requires : tie.Need-adding-requires
 adding-requires c κs =
     let range = ranged (c .before .before .before) _ (c .before .x .given .1) in (c .before .before .before .before .before .pre .0 .eight, range .0, range .1)
-
-enum-told-2 : tie.Need-enum-told-2
-enum-told-2 c = search needs
-
-enum-told-3 : tie.Need-enum-told-3
-enum-told-3 c = search needs
-
-enum-told-4 : tie.Need-enum-told-4
-enum-told-4 c = search needs
-
-enum-told-5 : tie.Need-enum-told-5
-enum-told-5 c = search needs
 
 enum-known-x-2 : tie.Need-enum-known-x-2
 enum-known-x-2 c = search needs
@@ -70,15 +58,6 @@ communications-requires c κs =
 awaited-requires : tie.Need-awaited-requires
 awaited-requires c κs = search needs
 
-enum-told-6 : tie.Need-enum-told-6
-enum-told-6 c = search needs
-
-enum-told-7 : tie.Need-enum-told-7
-enum-told-7 c = search needs
-
-enum-told-8 : tie.Need-enum-told-8
-enum-told-8 c = search needs
-
 enum-known-x-3 : tie.Need-enum-known-x-3
 enum-known-x-3 c = search needs
 
@@ -92,71 +71,44 @@ awaited-requires-2 : tie.Need-awaited-requires-2
 awaited-requires-2 c κs = search needs
 
 returns : tie.Need-returns
-returns c = is-that (c .before .before) _ (c .enum-told .given .1) taken (λ log ends. refl)
+returns c = is-that (c .before .before .before .before) _ (c .before .before .x .given .1) _ (λ log ends. c .adding .ensures)
 
 returns-2 : tie.Need-returns-2
-returns-2 c = is-that (c .before .before .before .before) _ (c .before .before .x .given .1) _ (λ log ends. c .adding .ensures)
-
-returns-3 : tie.Need-returns-3
-returns-3 c = is-that (c .before .before) _ (c .enum-told2 .given .1) taken (λ log ends. refl)
-
-returns-4 : tie.Need-returns-4
-returns-4 c = is-that (c .before .before) _ (c .enum-told3 .given .1) taken (λ log ends. refl)
-
-returns-5 : tie.Need-returns-5
-returns-5 c = is-that (c .before .before) _ (c .enum-told4 .given .1) taken (λ log ends. refl)
-
-returns-6 : tie.Need-returns-6
-returns-6 c = is-that (c .before .before) _ (c .enum-told5 .given .1) taken (λ log ends. refl)
-
-returns-7 : tie.Need-returns-7
-returns-7 c =
+returns-2 c =
     is-that (c .before .before .before .before .before) _ (c .before .before .before .x2 .given .1) _
     (λ log ends. c .awaited .ensures ∙ ap (λ (f : Seen). cond (isSeen f) taken waiting) (c .before .communications .ensures))
 
-returns-8 : tie.Need-returns-8
-returns-8 c = is-that (c .before .before) _ (c .enum-told6 .given .1) taken (λ log ends. refl)
-
-returns-9 : tie.Need-returns-9
-returns-9 c = is-that (c .before .before) _ (c .enum-told7 .given .1) taken (λ log ends. refl)
-
-returns-10 : tie.Need-returns-10
-returns-10 c = is-that (c .before .before) _ (c .enum-told8 .given .1) taken (λ log ends. refl)
-
-returns-11 : tie.Need-returns-11
-returns-11 c =
+returns-3 : tie.Need-returns-3
+returns-3 c =
     is-that (c .before .before .before .before .before) _ (c .before .before .before .x3 .given .1) _
     (λ log ends. c .awaited2 .ensures ∙ ap (λ (f : Seen). cond (isSeen f) taken waiting) (c .before .mutexes .ensures))
+
+returns-4 : tie.Need-returns-4
+returns-4 c =
+    let s = c .before in
+    let y = s .before .before .args in
+    is-that s (s .action .result) refl taken
+    (λ log ends.
+    sym
+    (always-taken (y .table .now) (seenFrom (y .r) (mailOf (y .comms .now) log ends) (queuesOf (y .queues .now))) (y .a) (s .action .result)
+    (λ cell other e. other-kind (1 ∷ 6 ∷ 10 ∷ []) (c .match .keys4) (Add cell other) tt e)
+    (λ result list e. other-kind (1 ∷ 6 ∷ 10 ∷ []) (c .match .keys4) (WaitAny result list) tt e)
+    (λ result list e. other-kind (1 ∷ 6 ∷ 10 ∷ []) (c .match .keys4) (MutexWait result list) tt e)))
 
 pub next-step-spec : {M : Type 1} → statement M
 next-step-spec =
     tie.close
     (tie.spec
     action-requires
-    enum-told
     enum-known-x
     adding-requires
-    enum-told-2
-    enum-told-3
-    enum-told-4
-    enum-told-5
     enum-known-x-2
     communications-requires
     awaited-requires
-    enum-told-6
-    enum-told-7
-    enum-told-8
     enum-known-x-3
     mutexes-requires
     awaited-requires-2
     returns
     returns-2
     returns-3
-    returns-4
-    returns-5
-    returns-6
-    returns-7
-    returns-8
-    returns-9
-    returns-10
-    returns-11)
+    returns-4)

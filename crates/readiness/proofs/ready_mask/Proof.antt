@@ -20,22 +20,22 @@ use Rattle.readiness.proofs.ready_mask.Tie as tie
 
 abbrev Inv-loop : tie.InvT-loop
 Inv-loop table n known a comms queues actors m₀ i₀ m i =
-    (i ≤ n) × ((log ends : List ℕ) → m ≡ maskOf (ready table (siteWith actors comms queues log ends)) (n - i) i)
+    (i ≤ n) × ((log ends journal : List ℕ) → m ≡ maskOf (ready table (siteWith actors comms queues log ends journal)) (n - i) i)
 
 abbrev μ-loop : tie.MeasureT-loop
 μ-loop table n known a comms queues actors m₀ i₀ m i = i
 
 -- before the last bit the mask is below 128
 room-left : {table : List ℕ} {actors : List Actor} {comms queues : List ℕ} {n m i : ℕ} → Answerable table actors comms queues → n ≡ actorsOf table
-    → (i ≤ n) × ((log ends : List ℕ) → m ≡ maskOf (ready table (siteWith actors comms queues log ends)) (n - i) i) → 0 < i → m < 128
+    → (i ≤ n) × ((log ends journal : List ℕ) → m ≡ maskOf (ready table (siteWith actors comms queues log ends journal)) (n - i) i) → 0 < i → m < 128
 room-left {table} {actors} {comms} {queues} {n} {m} {i} A counted inv some =
     let few : n - i ≤ 7 = omega (arith, A .accepted .actors-most) in
-    rw (inv .1 [] []) (mask-room (ready table (siteWith actors comms queues [] [])) (n - i) i few)
+    rw (inv .1 [] [] []) (mask-room (ready table (siteWith actors comms queues [] [] [])) (n - i) i few)
 
 loop-holds : tie.Need-loop-holds Inv-loop μ-loop
 loop-holds c =
     let x = c .before .args in
-    (omega arith, λ log ends. mask-begin (ready (x .table .now) (siteWith (x .t5) (x .comms .now) (x .queues .now) log ends)) (x .n))
+    (omega arith, λ log ends journal. mask-begin (ready (x .table .now) (siteWith (x .t5) (x .comms .now) (x .queues .now) log ends journal)) (x .n))
 
 sub-i : tie.Need-sub-i Inv-loop μ-loop
 sub-i c = search needs
@@ -45,8 +45,8 @@ sub-i c = search needs
 abbrev actorAt : tie.In-loop Inv-loop μ-loop → ℕ
 actorAt c = c .before .loop .i - 1
 
-abbrev siteAt : tie.In-loop Inv-loop μ-loop → (log ends : List ℕ) → Site
-siteAt c log ends = let x = c .before .before .before .args in siteWith (x .t5) (x .comms .now) (x .queues .now) log ends
+abbrev siteAt : tie.In-loop Inv-loop μ-loop → (log ends journal : List ℕ) → Site
+siteAt c log ends journal = let x = c .before .before .before .args in siteWith (x .t5) (x .comms .now) (x .queues .now) log ends journal
 
 some : (c : tie.In-loop Inv-loop μ-loop) → 0 < c .before .loop .i
 some c = omega (arith, c .loop-test .taken)
@@ -66,17 +66,17 @@ small c = room-left (c .before .before .before .pre .0) (c .before .before .befo
 
 -- the actor's bit below those that stand
 one-more : (c : tie.In-loop Inv-loop μ-loop) (b : ℕ)
-    → ((log ends : List ℕ) → b ≡ bit (ready (c .before .before .before .args .table .now) (siteAt c log ends) (actorAt c)))
+    → ((log ends journal : List ℕ) → b ≡ bit (ready (c .before .before .before .args .table .now) (siteAt c log ends journal) (actorAt c)))
     → (actorAt c ≤ c .before .before .before .args .n)
-    × ((log ends : List ℕ) → b + 2 * c .before .loop .m
-    ≡ maskOf (ready (c .before .before .before .args .table .now) (siteAt c log ends)) (c .before .before .before .args .n - actorAt c) (actorAt c))
+    × ((log ends journal : List ℕ) → b + 2 * c .before .loop .m
+    ≡ maskOf (ready (c .before .before .before .args .table .now) (siteAt c log ends journal)) (c .before .before .before .args .n - actorAt c) (actorAt c))
 one-more c b right =
     let x = c .before .before .before .args in
     let l = c .before .loop in (
       omega (arith, l .inv .0),
-      λ log ends.
-          ap₂ (λ (y z : ℕ). y + 2 * z) (right log ends) (l .inv .1 log ends)
-          ∙ sym (mask-next (ready (x .table .now) (siteAt c log ends)) (x .n) (l .i) (some c) (l .inv .0)),
+      λ log ends journal.
+          ap₂ (λ (y z : ℕ). y + 2 * z) (right log ends journal) (l .inv .1 log ends journal)
+          ∙ sym (mask-next (ready (x .table .now) (siteAt c log ends journal)) (x .n) (l .i) (some c) (l .inv .0)),
     )
 
 -- ---- one that is known
@@ -97,7 +97,7 @@ loop-again : tie.Need-loop-again Inv-loop μ-loop
 loop-again c =
     let w = c .before .before in
     let known = c .before .is-known .ensures (c .if1 .taken) in
-    one-more w 1 (λ log ends. sym (ap bit (w .before .before .before .pre .2 (actorAt w) (known .0) (known .1) log ends)))
+    one-more w 1 (λ log ends journal. sym (ap bit (w .before .before .before .pre .2 (actorAt w) (known .0) (known .1) log ends journal)))
 
 -- ---- one that is looked at
 
@@ -136,19 +136,19 @@ loop-again-2 c =
     let w = c .before .before .before .before .before in
     let x = w .before .before .before .args in
     one-more w (c .bit .result)
-    (λ log ends.
+    (λ log ends journal.
     c .bit .ensures .0
     ∙ ap bit
     (c .before .is-ready .ensures log ends
     ∙ ap (λ (r : Actor). looksReady (x .table .now) (actorAt w) r (x .comms .now) (x .queues .now) log ends) (own-record w)
-    ∙ sym (ready-looks (x .table .now) (x .t5) (x .comms .now) (x .queues .now) log ends (actorAt w) (in-table w))))
+    ∙ sym (ready-looks (x .table .now) (x .t5) (x .comms .now) (x .queues .now) log ends journal (actorAt w) (in-table w))))
 
 returns : tie.Need-returns Inv-loop μ-loop
 returns c =
     let x = c .before .before .before .args in
-    λ log ends.
-    let f = ready (x .table .now) (siteWith (x .t5) (x .comms .now) (x .queues .now) log ends) in
-    c .before .loop .inv .1 log ends ∙ mask-end f (x .n) (c .before .loop .i) (c .loop-test .left)
+    λ log ends journal.
+    let f = ready (x .table .now) (siteWith (x .t5) (x .comms .now) (x .queues .now) log ends journal) in
+    c .before .loop .inv .1 log ends journal ∙ mask-end f (x .n) (c .before .loop .i) (c .loop-test .left)
     ∙ ap (λ (n : ℕ). maskOf f n 0) (c .before .before .before .pre .1)
 
 pub ready-mask-spec : {M : Type 1} → statement M

@@ -7,7 +7,7 @@ use Prim.Native.Nat.{ℕ, _+_}
 use native.Mathlib.Omega.{arith}
 use lib.ListN.{length, getD, set}
 use mathlib.Core.Bool.{cond}
-use Rattle.table.specs.declared.Action.the-variants.{Set, Add, Lesser, Send, Receive, TestAny, WaitAny, Lock, Unlock, MutexTest, MutexWait}
+use Rattle.table.specs.declared.Action.the-variants.{Set, Add, Lesser, Send, Receive, TestAny, WaitAny, Lock, Unlock, MutexTest, MutexWait, Note}
 use Rattle.table.specs.Decode.{actionOf}
 use Rattle.model.specs.Views.{joins, leaves}
 use Rattle.state.specs.State.{mailOf}
@@ -17,7 +17,8 @@ use Rattle.model.specs.Step.{taken, waiting}
 use Rattle.state.specs.declared.NextStep.the-variants.{Taken}
 use Rattle.look.specs.Parts.{seenOf}
 use Rattle.step.specs.Parts.{Picks, SmallPlace}
-use Rattle.step.proofs.Taken.{ranged, position-small, actor-small, listed-small, pickable, small-place, pick-length, quiet, posted, meets-as, queued, of-next, room-to-post}
+use Rattle.step.proofs.Taken.{ranged, position-small, actor-small, listed-small, pickable, small-place, quiet, posted, meets-as, queued, noted, of-next, room-to-post}
+use Rattle.model.proofs.ReportBoundCells.{pickUpSeen-length}
 use borrow.Author.Needs.{needs}
 use Rattle.step.proofs.step.Statement.{statement}
 use Rattle.step.proofs.step.Tie as tie
@@ -121,7 +122,7 @@ told-requires : tie.Need-told-requires
 told-requires c κs =
     let S = c .before .before .before .before .before .before .before .before .pre in
     let range = ranged (c .before .before .before .before .before .before .before .before .pre) _ (sym (c .before .before .before .before .before .before .action .ensures) ∙ c .before .before .before .before .x6 .given .1) in (
-      ap length (c .picked .ensures .1) ∙ pick-length (actionOf (c .before .before .before .before .before .before .before .before .args .table .now) (c .before .before .before .before .before .before .before .before .args .a)) (seenOf (c .before .communications .result)) (c .before .before .before .before .before .before .before .before .args .t3 .cells) ∙ S .eight,
+      ap length (c .picked .ensures .1) ∙ pickUpSeen-length (actionOf (c .before .before .before .before .before .before .before .before .args .table .now) (c .before .before .before .before .before .before .before .before .args .a)) (seenOf (c .before .communications .result)) (c .before .before .before .before .before .before .before .before .args .t3 .cells) ∙ S .eight,
       range .0,
       omega (arith, c .picked .ensures .0, position-small S),
       subst SmallPlace (sym (c .before .communications .ensures)) (small-place _ _ _ (range .1 .most)),
@@ -147,7 +148,7 @@ told-requires-2 : tie.Need-told-requires-2
 told-requires-2 c κs =
     let S = c .before .before .before .before .before .before .before .before .before .pre in
     let range = ranged (c .before .before .before .before .before .before .before .before .before .pre) _ (sym (c .before .before .before .before .before .before .before .action .ensures) ∙ c .before .before .before .before .before .x7 .given .1) in (
-      ap length (c .picked2 .ensures .1) ∙ pick-length (actionOf (c .before .before .before .before .before .before .before .before .before .args .table .now) (c .before .before .before .before .before .before .before .before .before .args .a)) (seenOf (c .before .before .communications2 .result)) (c .before .before .before .before .before .before .before .before .before .args .t3 .cells) ∙ S .eight,
+      ap length (c .picked2 .ensures .1) ∙ pickUpSeen-length (actionOf (c .before .before .before .before .before .before .before .before .before .args .table .now) (c .before .before .before .before .before .before .before .before .before .args .a)) (seenOf (c .before .before .communications2 .result)) (c .before .before .before .before .before .before .before .before .before .args .t3 .cells) ∙ S .eight,
       range .0,
       omega (arith, c .picked2 .ensures .0, position-small S),
       subst SmallPlace (sym (c .before .before .communications2 .ensures)) (small-place _ _ _ (range .1 .most)),
@@ -211,6 +212,39 @@ told-requires-4 c κs =
     let S = c .before .before .before .before .before .before .before .before .pre in
     let range = ranged (c .before .before .before .before .before .before .before .before .pre) _ (sym (c .before .before .before .before .before .before .action .ensures) ∙ c .before .before .before .before .x11 .given .1) in
     (S .eight, range .0, position-small S, subst SmallPlace (sym (c .before .mutexes2 .ensures)) (small-place _ _ _ (range .1 .most)))
+
+enum-known-x-12 : tie.Need-enum-known-x-12
+enum-known-x-12 c = search needs
+
+mul-value-2 : tie.Need-mul-value-2
+mul-value-2 c =
+    let s = c .before .before .before .before .before in
+    omega (arith, ranged (s .pre) _ (sym (c .before .before .before .action .ensures) ∙ c .before .x12 .given .1), s .pre .eight)
+
+element-copy-out-value-2 : tie.Need-element-copy-out-value-2
+element-copy-out-value-2 c =
+    let s = c .before .before .before .before .before in
+    omega (arith, ranged (s .pre) _ (sym (c .before .before .before .action .ensures) ∙ c .before .x12 .given .1), s .pre .eight)
+
+mul-add : tie.Need-mul-add
+mul-add c = search needs
+
+add-add : tie.Need-add-add
+add-add c =
+    let s = c .before .before .before .before .before .before .before in omega (arith, position-small (s .pre), actor-small (s .pre))
+
+add-requires : tie.Need-add-requires
+add-requires c κs =
+    let s = c .before .before .before .before .before .before .before in
+    let S = s .pre in (
+      S .journal-room,
+      S .note-room _ (sym (c .before .before .before .before .before .action .ensures) ∙ c .before .before .before .x12 .given .1),
+      omega (arith, position-small S, actor-small S),
+    )
+
+next-requires-7 : tie.Need-next-requires-7
+next-requires-7 c κs =
+    let s = c .before .before .before .before .before .before .before .before in position-small (s .pre)
 
 returns : tie.Need-returns
 unfolding cellsAfter
@@ -276,14 +310,14 @@ returns-8 : tie.Need-returns-8
 unfolding cellsAfter
 returns-8 c =
     of-next (Lock (c .before .before .before .before .x8 .given .0 .0)) (sym (c .before .before .before .before .before .before .action .ensures) ∙ c .before .before .before .before .x8 .given .1)
-    (queued (c .before .before .before .before .before .before .before .before .pre) (Lock (c .before .before .before .before .x8 .given .0 .0)) (record { next = Taken; actor = c .next5 .result }) (joins (c .before .before .before .before .x8 .given .0 .0)) refl refl (λ me v mail. refl)
+    (queued (c .before .before .before .before .before .before .before .before .pre) (Lock (c .before .before .before .before .x8 .given .0 .0)) (record { next = Taken; actor = c .next5 .result }) (joins (c .before .before .before .before .x8 .given .0 .0)) refl refl (λ me v mail. refl) (λ me v entries. refl)
     (c .before .join .ensures .0) (c .before .join .ensures .1) (λ t. (c .next5 .ensures .0, c .next5 .ensures .1)))
 
 returns-9 : tie.Need-returns-9
 unfolding cellsAfter
 returns-9 c =
     of-next (Unlock (c .before .before .before .before .x9 .given .0 .0)) (sym (c .before .before .before .before .before .before .action .ensures) ∙ c .before .before .before .before .x9 .given .1)
-    (queued (c .before .before .before .before .before .before .before .before .pre) (Unlock (c .before .before .before .before .x9 .given .0 .0)) (record { next = Taken; actor = c .next6 .result }) (leaves (c .before .before .before .before .x9 .given .0 .0)) refl refl (λ me v mail. refl)
+    (queued (c .before .before .before .before .before .before .before .before .pre) (Unlock (c .before .before .before .before .x9 .given .0 .0)) (record { next = Taken; actor = c .next6 .result }) (leaves (c .before .before .before .before .x9 .given .0 .0)) refl refl (λ me v mail. refl) (λ me v entries. refl)
     (c .before .leave .ensures .0) (c .before .leave .ensures .1) (λ t. (c .next6 .ensures .0, c .next6 .ensures .1)))
 
 returns-10 : tie.Need-returns-10
@@ -299,6 +333,14 @@ returns-11 c =
     of-next (MutexWait (c .before .before .before .before .before .x11 .given .0 .0) (c .before .before .before .before .before .x11 .given .0 .1 .0)) (sym (c .before .before .before .before .before .before .before .action .ensures) ∙ c .before .before .before .before .before .x11 .given .1)
     (quiet (c .before .before .before .before .before .before .before .before .before .pre) (MutexWait (c .before .before .before .before .before .x11 .given .0 .0) (c .before .before .before .before .before .x11 .given .0 .1 .0)) (record { next = c .before .awaited2 .result; actor = c .told4 .result }) refl (c .before .awaited2 .ensures ∙ ap (λ (f : Seen). cond (isSeen f) taken waiting) (c .before .before .mutexes2 .ensures))
     (λ t. (c .told4 .ensures .0, c .told4 .ensures .1 ∙ ap (λ (f : Seen). set (c .before .before .before .before .before .before .before .before .before .args .t3 .cells) (c .before .before .before .before .before .x11 .given .0 .0) (placeSeen f)) (c .before .before .mutexes2 .ensures))))
+
+returns-12 : tie.Need-returns-12
+returns-12 c =
+    let s = c .before .before .before .before .before .before .before .before .before in
+    let x = c .before .before .before .before .before .x12 in
+    of-next (Note (x .given .0 .0)) (sym (c .before .before .before .before .before .before .before .action .ensures) ∙ x .given .1)
+    (noted (s .pre) (x .given .0 .0) (record { next = Taken; actor = c .next7 .result }) refl (c .before .add .ensures .0) (c .before .add .ensures .1)
+    (λ t. (c .next7 .ensures .0, c .next7 .ensures .1)))
 
 pub step-spec : {M : Type 1} → statement M
 step-spec =
@@ -347,6 +389,13 @@ step-spec =
     mutexes-requires-2
     awaited-requires-2
     told-requires-4
+    enum-known-x-12
+    mul-value-2
+    element-copy-out-value-2
+    mul-add
+    add-add
+    add-requires
+    next-requires-7
     returns
     returns-2
     returns-3
@@ -357,4 +406,5 @@ step-spec =
     returns-8
     returns-9
     returns-10
-    returns-11)
+    returns-11
+    returns-12)

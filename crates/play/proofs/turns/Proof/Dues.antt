@@ -117,7 +117,7 @@ pub left : (e : tie.Else4 Inv-loop μ-loop) → let d = found (unfinished e) in 
 left e = omega (arith, e .before .actions .ensures, e .if4 .left)
 
 pub can-step : (e : tie.Else4 Inv-loop μ-loop) → let d = found (unfinished e) in let l = at (due d) .loop in
-    Steppable (tableAt (due d)) (actorAt d) (recordAt d) (l .comms) (l .log) (l .ends) (l .queues)
+    Steppable (tableAt (due d)) (actorAt d) (recordAt d) (l .comms) (l .log) (l .ends) (l .queues) (l .journal)
 can-step e =
     let d = found (unfinished e) in
     let here = entry-right d in
@@ -125,7 +125,7 @@ can-step e =
 
 -- after its step
 abbrev pub stepped : tie.After-step Inv-loop μ-loop → tie.Else4 Inv-loop μ-loop
-stepped s = s .before .before .before .before .before
+stepped s = s .before .before .before .before .before .before
 
 abbrev pub dueBefore : tie.After-step Inv-loop μ-loop → tie.After-due Inv-loop μ-loop
 dueBefore s = found (unfinished (stepped s))

@@ -12,13 +12,14 @@ use Rattle.table.specs.Format.{actorsOf, countOf}
 use Rattle.table.specs.Decode.{actionOf}
 use Rattle.trace.proofs.Bools.{contrary}
 use Rattle.model.specs.Site.{Site}
-use Rattle.model.specs.Views.{silent, posts}
+use Rattle.model.specs.Views.{posts}
 use Rattle.model.specs.Step.{ready}
 use Rattle.model.specs.Ready.{readyMask}
 use Rattle.model.proofs.Reached.{reached-end}
 use Rattle.state.specs.State.{freshActor}
 use Rattle.state.specs.declared.Actor.{Actor}
 use Rattle.state.proofs.Within.{getD-within}
+use Rattle.lead.specs.Parts.{Unheard}
 use Rattle.readiness.specs.Parts.{Known, looksReady}
 use Rattle.readiness.proofs.Laws.{ready-looks}
 use Rattle.policy.specs.Parts.{ruleOf, keptOf}
@@ -35,18 +36,18 @@ pub record Making (table whole : List ℕ) (first policy : Policy) (mask last i 
   pub rest : Left (ruleOf first) table whole i (keptOf policy)
   pub last-in : last < actorsOf table
   pub known : Known table mask last actors comms queues
-  -- and where its step posted nothing, nobody else has become ready
-  pub quiet : 0 < getD actors last freshActor .position → posts (actionOf table last (getD actors last freshActor .position - 1)) ≡ silent
+  -- and where nobody waited for what its step posted, nobody else has become ready
+  pub quiet : 0 < getD actors last freshActor .position → Unheard (posts (actionOf table last (getD actors last freshActor .position - 1)))
       → OwnOpen table (reached table whole i) mask last
 
 abbrev pub Inv-loop : tie.InvT-loop
-Inv-loop table schedule made comms₀ log₀ ends₀ queues₀ names₀ n actors₀ policy₀ mask₀ last₀ i₀ comms log ends queues names actors policy mask last i =
+Inv-loop table schedule made comms₀ log₀ ends₀ queues₀ journal₀ names₀ n actors₀ policy₀ mask₀ last₀ i₀ comms log ends queues journal names actors policy mask last i =
     let whole = playedBy table schedule made policy₀ in
-    Playing table whole comms log ends queues actors i × Named table whole names i
+    Playing table whole comms log ends queues journal actors i × Named table whole names i
     × (made ≡ true → Making table whole policy₀ policy mask last i actors comms queues)
 
 abbrev pub μ-loop : tie.MeasureT-loop
-μ-loop table schedule made comms₀ log₀ ends₀ queues₀ names₀ n actors₀ policy₀ mask₀ last₀ i₀ comms log ends queues names actors policy mask last i =
+μ-loop table schedule made comms₀ log₀ ends₀ queues₀ journal₀ names₀ n actors₀ policy₀ mask₀ last₀ i₀ comms log ends queues journal names actors policy mask last i =
     257 - i
 
 -- ---- the mask, where the schedule is made
@@ -97,13 +98,13 @@ last-position t =
 
 -- its step posted nothing: the mask is right but for it
 pub opened : (t : tie.Then1 Inv-loop μ-loop) → let l = t .before .before .loop in let x = t .before .before .before .before .before .before .before .args in
-    (0 < lastAt t .position) × (posts (actionOf (x .table .now) (l .last) (lastAt t .position - 1)) ≡ silent)
+    (0 < lastAt t .position) × Unheard (posts (actionOf (x .table .now) (l .last) (lastAt t .position - 1)))
     → OwnOpen (x .table .now) (reached (x .table .now) (playedBy (x .table .now) (x .schedule .now) (x .made) (x .policy)) (l .i)) (l .mask) (l .last)
 opened t q =
     let l = t .before .before .loop in
     let x = t .before .before .before .before .before .before .before .args in
     l .inv .2 (t .if1 .taken) .quiet (subst (λ (r : Actor). 0 < r .position) (last-record t) (q .0))
-    (subst (λ (r : Actor). posts (actionOf (x .table .now) (l .last) (r .position - 1)) ≡ silent) (last-record t) (q .1))
+    (subst (λ (r : Actor). Unheard (posts (actionOf (x .table .now) (l .last) (r .position - 1)))) (last-record t) (q .1))
 
 -- what its record says of it is what the state says
 pub last-looks : (t : tie.Then1 Inv-loop μ-loop) → let l = t .before .before .loop in let x = t .before .before .before .before .before .before .before .args in
@@ -113,7 +114,7 @@ last-looks t =
     let l = t .before .before .loop in
     let x = t .before .before .before .before .before .before .before .args in
     ap (λ (r : Actor). looksReady (x .table .now) (l .last) r (l .comms) (l .queues) (l .log) (l .ends)) (last-record t)
-    ∙ sym (ready-looks (x .table .now) (l .actors) (l .comms) (l .queues) (l .log) (l .ends) (l .last) (l .inv .2 (t .if1 .taken) .last-in))
+    ∙ sym (ready-looks (x .table .now) (l .actors) (l .comms) (l .queues) (l .log) (l .ends) (l .journal) (l .last) (l .inv .2 (t .if1 .taken) .last-in))
     ∙ ap (λ (s : Site). ready (x .table .now) s (l .last)) (l .inv .0 .site)
 
 pub masked : (j : tie.Joined1 Inv-loop μ-loop) → madeAt j ≡ true → j .if1 .mask ≡ readyMask (tableAt j) (reached (tableAt j) (wholeAt j) (at j .loop .i))
@@ -125,7 +126,7 @@ masked j e =
     w .7 ∙ w .6 .ensures (l .log) (l .ends) ∙ ap (λ (b : Bool). cond b (l .mask) (l .mask - 2 ^ l .last)) (last-looks t)
     ∙ own-masked (opened t (w .2 .ensures (w .3 .taken))) (l .inv .2 e .last-in))
     (⊎-elim
-    (λ w. w .7 ∙ w .6 .ensures (l .log) (l .ends) ∙ ap (readyMask (tableAt j)) (l .inv .0 .site))
+    (λ w. w .7 ∙ w .6 .ensures (l .log) (l .ends) (l .journal) ∙ ap (readyMask (tableAt j)) (l .inv .0 .site))
     (λ w. contrary e (w .0 .left)))
     (j .if1 .came)
 

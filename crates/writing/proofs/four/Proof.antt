@@ -1,11 +1,11 @@
--- `actor_sections::four` meets its contract. Assumes nothing.
+-- `writing::four` meets its contract. Assumes nothing.
 use mathlib.Core.List.{[], _∷_}
 use native.Mathlib.Omega.{arith}
 use borrow.Author.Needs.{needs}
 use lib.ListN.{length-set}
 use Rattle.writing.proofs.Written.{wrote-stores}
-use Rattle.actor_sections.proofs.four.Statement.{statement}
-use Rattle.actor_sections.proofs.four.Tie as tie
+use Rattle.writing.proofs.four.Statement.{statement}
+use Rattle.writing.proofs.four.Tie as tie
 
 slice-write-buf : tie.Need-slice-write-buf
 slice-write-buf c = search needs

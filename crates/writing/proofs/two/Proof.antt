@@ -1,9 +1,9 @@
--- `queue_sections::two` meets its contract. Assumes nothing.
+-- `writing::two` meets its contract. Assumes nothing.
 use mathlib.Core.List.{[], _∷_}
 use borrow.Author.Needs.{needs}
 use Rattle.writing.proofs.Written.{wrote-stores}
-use Rattle.queue_sections.proofs.two.Statement.{statement}
-use Rattle.queue_sections.proofs.two.Tie as tie
+use Rattle.writing.proofs.two.Statement.{statement}
+use Rattle.writing.proofs.two.Tie as tie
 
 slice-write-buf : tie.Need-slice-write-buf
 slice-write-buf c = search needs

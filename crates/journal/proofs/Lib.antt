@@ -1,0 +1,2 @@
+-- The journal in its array.
+pub mod Held

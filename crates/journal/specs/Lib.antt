@@ -1,0 +1,2 @@
+-- What the writers of the journal promise.
+pub mod Parts
