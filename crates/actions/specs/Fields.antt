@@ -4,9 +4,9 @@ use Prim.Native.Nat.{ℕ}
 use mathlib.Core.List.{List, [], _∷_}
 use lib.ListN.{getD}
 use Rattle.table.specs.declared.Action.{Action}
-use Rattle.table.specs.declared.Action.the-variants.{Set, Add, Lesser, Send, Receive, TestAny, WaitAny, Lock, Unlock, MutexTest, MutexWait}
+use Rattle.table.specs.declared.Action.the-variants.{Set, Add, Lesser, Send, Receive, TestAny, WaitAny, Lock, Unlock, MutexTest, MutexWait, Note}
 use Rattle.model.specs.Site.{Port, sends, receives}
-use Rattle.model.specs.Views.{Post, silent, mails, joins, leaves, Look, blind, communications, mutexes, listed}
+use Rattle.model.specs.Views.{Post, silent, mails, joins, leaves, notes, posts, Look, blind, communications, mutexes, looks}
 
 -- the number of its kind
 abbrev pub kindOf : Action → ℕ
@@ -21,34 +21,27 @@ kindOf (Lock mutex) = 7
 kindOf (Unlock mutex) = 8
 kindOf (MutexTest result list) = 9
 kindOf (MutexWait result list) = 10
+kindOf (Note cell) = 11
 
 -- the mailbox of a Send or a Receive, the mutex of a Lock or an Unlock
+abbrev pub targetIn : Post → ℕ
+targetIn silent = 0
+targetIn (mails p) = p .mailbox
+targetIn (joins m) = m
+targetIn (leaves m) = m
+targetIn notes = 0
+
 abbrev pub targetOf : Action → ℕ
-targetOf (Set cell value) = 0
-targetOf (Add cell other) = 0
-targetOf (Lesser cell other) = 0
-targetOf (Send mailbox cell) = mailbox
-targetOf (Receive mailbox cell) = mailbox
-targetOf (TestAny result list) = 0
-targetOf (WaitAny result list) = 0
-targetOf (Lock mutex) = mutex
-targetOf (Unlock mutex) = mutex
-targetOf (MutexTest result list) = 0
-targetOf (MutexWait result list) = 0
+targetOf x = targetIn (posts x)
 
 -- what a Test or a Wait lists: actions of its own actor, or mutexes
+abbrev pub listIn : Look → List ℕ
+listIn blind = []
+listIn (communications l) = l
+listIn (mutexes l) = l
+
 abbrev pub listOf : Action → List ℕ
-listOf (Set cell value) = []
-listOf (Add cell other) = []
-listOf (Lesser cell other) = []
-listOf (Send mailbox cell) = []
-listOf (Receive mailbox cell) = []
-listOf (TestAny result list) = listed list
-listOf (WaitAny result list) = listed list
-listOf (Lock mutex) = []
-listOf (Unlock mutex) = []
-listOf (MutexTest result list) = listed list
-listOf (MutexWait result list) = listed list
+listOf x = listIn (looks x)
 
 -- ---- what an action of kind i posts, on the mailbox or mutex m, and what it looks at, where it lists l
 
@@ -60,7 +53,10 @@ receiving m = record { mailbox = m; side = receives }
 
 abbrev pub postBy : ℕ → ℕ → Post
 postBy i m =
-    getD (silent ∷ silent ∷ silent ∷ mails (sending m) ∷ mails (receiving m) ∷ silent ∷ silent ∷ joins m ∷ leaves m ∷ []) i silent
+    getD
+    (silent ∷ silent ∷ silent ∷ mails (sending m) ∷ mails (receiving m) ∷ silent ∷ silent ∷ joins m ∷ leaves m ∷ silent ∷ silent ∷ notes ∷ [])
+    i
+    silent
 
 abbrev pub lookBy : ℕ → List ℕ → Look
 lookBy i l =

@@ -27,6 +27,7 @@ pub fn kind(x: Action) -> usize
         Action::Unlock { mutex: _ } => 8,
         Action::MutexTest { result: _, list: _ } => 9,
         Action::MutexWait { result: _, list: _ } => 10,
+        Action::Note { cell: _ } => 11,
     }
 }
 
@@ -35,17 +36,11 @@ pub fn target(x: Action) -> usize
     ensures { λ r. ⌜ r ≡ targetOf x ⌝ }
 {
     match x {
-        Action::Set { cell: _, value: _ } => 0,
-        Action::Add { cell: _, other: _ } => 0,
-        Action::Lesser { cell: _, other: _ } => 0,
         Action::Send { mailbox, cell: _ } => mailbox,
         Action::Receive { mailbox, cell: _ } => mailbox,
-        Action::TestAny { result: _, list: _ } => 0,
-        Action::WaitAny { result: _, list: _ } => 0,
         Action::Lock { mutex } => mutex,
         Action::Unlock { mutex } => mutex,
-        Action::MutexTest { result: _, list: _ } => 0,
-        Action::MutexWait { result: _, list: _ } => 0,
+        _ => 0,
     }
 }
 
@@ -54,23 +49,11 @@ pub fn list(x: Action) -> Numbers
     ensures { λ r. ⌜ listed r ≡ listOf x ⌝ }
 {
     match x {
-        Action::Set { cell: _, value: _ } => none(),
-        Action::Add { cell: _, other: _ } => none(),
-        Action::Lesser { cell: _, other: _ } => none(),
-        Action::Send {
-            mailbox: _,
-            cell: _,
-        } => none(),
-        Action::Receive {
-            mailbox: _,
-            cell: _,
-        } => none(),
         Action::TestAny { result: _, list } => list,
         Action::WaitAny { result: _, list } => list,
-        Action::Lock { mutex: _ } => none(),
-        Action::Unlock { mutex: _ } => none(),
         Action::MutexTest { result: _, list } => list,
         Action::MutexWait { result: _, list } => list,
+        _ => none(),
     }
 }
 

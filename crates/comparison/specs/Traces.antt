@@ -25,17 +25,24 @@ pub record Kept (table schedule bytes : List ℕ) : Type 0 where
   pub bytes-long : length bytes ≡ 256
   pub names-right : namesIn (length schedule) bytes ≡ names (machine table) initial schedule
 
--- a schedule halts where its checks refuse it, and at its end its names are kept
-pub record Traced (table schedule bytes : List ℕ) (halt : Halt) : Type 0 where
+-- the arrays that one schedule hands on to the next: what they hold plays no part
+pub record Handed (log journal : List ℕ) : Type 0 where
+  pub log-long : length log ≡ 4096
+  pub journal-long : length journal ≡ 257
+
+-- a schedule halts where its checks refuse it, and at its end its names are kept, and the arrays can be handed on
+pub record Traced (table schedule log journal bytes : List ℕ) (halt : Halt) : Type 0 where
   pub halted : (n : RefusalNumbers) → haltOf n halt ≡ checkSchedule n table schedule
   pub kept : halt ≡ End → Kept table schedule bytes
+  pub handed : halt ≡ End → Handed log journal
 
 -- the table and the first schedule are accepted, and there is room for the second's names
-pub record Following (table first firstBytes secondBytes : List ℕ) : Type 0 where
+pub record Following (table first log journal firstBytes secondBytes : List ℕ) : Type 0 where
   pub read : readOf table ≡ accepted
   pub promise : WellFormed table
   pub first-fine : checkSchedule firstNumbers table first ≡ accepted
   pub first-kept : Kept table first firstBytes
+  pub arrays : Handed log journal
   pub room : length secondBytes ≡ 256
 
 -- the table and both schedules are accepted

@@ -8,12 +8,12 @@ use mathlib.Core.List.{List}
 use lib.Dec.{eqb, ltb}
 use borrow.Author.Tests.{lt-ltb, le-ltb, ne-eqb}
 use Rattle.table.specs.declared.Action.{Action}
-use Rattle.table.specs.declared.Action.the-variants.{Set, Add, Lesser, Send, Receive, TestAny, WaitAny, Lock, Unlock, MutexTest, MutexWait}
+use Rattle.table.specs.Kinds.{lastKind}
 use Rattle.table.specs.Decode.{actionOf}
 use Rattle.trace.specs.Machine.{Name}
 use Rattle.trace.specs.Order.{has}
 use Rattle.model.specs.Site.{name}
-use Rattle.model.specs.Views.{posts, looks}
+use Rattle.model.specs.Views.{Post, posts, looks}
 use Rattle.model.specs.Step.{actionAt}
 use Rattle.model.specs.Pair.{competes, answers, anyOf, meets, depends}
 use Rattle.model.specs.PairCases.{DependentCase}
@@ -21,7 +21,7 @@ use Rattle.model.proofs.Upd.{test-symmetric}
 use Rattle.model.proofs.Ports.{number-test}
 use Rattle.model.proofs.PairCases.{pair-cases}
 use Rattle.actions.specs.Fields.{kindOf, targetOf, listOf, sending, receiving, postBy, lookBy}
-use Rattle.actions.proofs.ByKind.{EachKind, at-kind, posts-by, looks-by, kind-under}
+use Rattle.actions.proofs.ByKind.{_▸_, EachKind, at-kind, by-kind}
 use Rattle.dependence.specs.Codes.{isOn, codeOf, comparisonOf, comparison, compared, byCode}
 
 -- ---- the comparisons, as the verdict makes them
@@ -35,31 +35,24 @@ same-mailbox m n = ap (λ (b : Bool). b || false) (and-true (eqb n m)) ∙ same-
 other-side : (m n : ℕ) → ((eqb n m && false) || false) ≡ false
 other-side m n = ap (λ (b : Bool). b || false) (and-false (eqb n m))
 
+-- which kinds answer a Send, and which a Receive
+receives-by : (m t : ℕ) → EachKind (λ i. answers (postBy i t) (sending m) ≡ (eqb i 4 && eqb t m))
+receives-by m t =
+    refl ▸ refl ▸ refl ▸ and-false (eqb t m) ▸ and-true (eqb t m) ▸ refl ▸ refl ▸ refl ▸ refl ▸ refl ▸ refl ▸ refl ▸ tt
+
+sends-by : (m t : ℕ) → EachKind (λ i. answers (postBy i t) (receiving m) ≡ (eqb i 3 && eqb t m))
+sends-by m t =
+    refl ▸ refl ▸ refl ▸ and-true (eqb t m) ▸ and-false (eqb t m) ▸ refl ▸ refl ▸ refl ▸ refl ▸ refl ▸ refl ▸ refl ▸ tt
+
 is-receive : (m : ℕ) (x : Action) → answers (posts x) (sending m) ≡ isOn 4 m x
-is-receive m (Set cell value) = refl
-is-receive m (Add cell other) = refl
-is-receive m (Lesser cell other) = refl
-is-receive m (Send mailbox cell) = and-false (eqb mailbox m)
-is-receive m (Receive mailbox cell) = and-true (eqb mailbox m)
-is-receive m (TestAny result list) = refl
-is-receive m (WaitAny result list) = refl
-is-receive m (Lock mutex) = refl
-is-receive m (Unlock mutex) = refl
-is-receive m (MutexTest result list) = refl
-is-receive m (MutexWait result list) = refl
+is-receive m x =
+    ap (λ (p : Post). answers p (sending m)) (by-kind x .posts-by)
+    ∙ at-kind (λ i. answers (postBy i (targetOf x)) (sending m) ≡ (eqb i 4 && eqb (targetOf x) m)) (receives-by m (targetOf x)) (kindOf x) (by-kind x .kind-most)
 
 is-send : (m : ℕ) (x : Action) → answers (posts x) (receiving m) ≡ isOn 3 m x
-is-send m (Set cell value) = refl
-is-send m (Add cell other) = refl
-is-send m (Lesser cell other) = refl
-is-send m (Send mailbox cell) = and-true (eqb mailbox m)
-is-send m (Receive mailbox cell) = and-false (eqb mailbox m)
-is-send m (TestAny result list) = refl
-is-send m (WaitAny result list) = refl
-is-send m (Lock mutex) = refl
-is-send m (Unlock mutex) = refl
-is-send m (MutexTest result list) = refl
-is-send m (MutexWait result list) = refl
+is-send m x =
+    ap (λ (p : Post). answers p (receiving m)) (by-kind x .posts-by)
+    ∙ at-kind (λ i. answers (postBy i (targetOf x)) (receiving m) ≡ (eqb i 3 && eqb (targetOf x) m)) (sends-by m (targetOf x)) (kindOf x) (by-kind x .kind-most)
 
 module _ (own : ℕ → Action) (m : ℕ) (l : List ℕ) where
   lists-receive : anyOf (λ k. answers (posts (own k)) (sending m)) l ≡ anyOf (λ k. isOn 4 m (own k)) l
@@ -87,21 +80,22 @@ module _ (own other : ℕ → Action) (m n : ℕ) (l r : List ℕ) where
 
   all-right : EachKind (λ i. EachKind (Right i))
   unfolding codeOf
-  all-right = (
-    (refl, refl, refl, refl, refl, refl, refl, refl, refl, refl, refl),
-    (refl, refl, refl, refl, refl, refl, refl, refl, refl, refl, refl),
-    (refl, refl, refl, refl, refl, refl, refl, refl, refl, refl, refl),
-    (refl, refl, refl, same-mailbox m n, other-side m n, lists-receive other m r, lists-receive other m r, refl, refl, refl, refl),
-    (refl, refl, refl, other-side m n, same-mailbox m n, lists-send other m r, lists-send other m r, refl, refl, refl, refl),
-    (refl, refl, refl, receive-first own n l, send-first own n l, refl, refl, refl, refl, refl, refl),
-    (refl, refl, refl, receive-first own n l, send-first own n l, refl, refl, refl, refl, refl, refl),
-    (refl, refl, refl, refl, refl, refl, refl, same-mutex m n, refl, refl, refl),
-    (refl, refl, refl, refl, refl, refl, refl, refl, refl, refl, refl),
-    (refl, refl, refl, refl, refl, refl, refl, refl, or-false (has l n), refl, refl),
-    (refl, refl, refl, refl, refl, refl, refl, refl, or-false (has l n), refl, refl),
-  )
+  all-right =
+      (refl ▸ refl ▸ refl ▸ refl ▸ refl ▸ refl ▸ refl ▸ refl ▸ refl ▸ refl ▸ refl ▸ refl ▸ tt)
+      ▸ (refl ▸ refl ▸ refl ▸ refl ▸ refl ▸ refl ▸ refl ▸ refl ▸ refl ▸ refl ▸ refl ▸ refl ▸ tt)
+      ▸ (refl ▸ refl ▸ refl ▸ refl ▸ refl ▸ refl ▸ refl ▸ refl ▸ refl ▸ refl ▸ refl ▸ refl ▸ tt)
+      ▸ (refl ▸ refl ▸ refl ▸ same-mailbox m n ▸ other-side m n ▸ lists-receive other m r ▸ lists-receive other m r ▸ refl ▸ refl ▸ refl ▸ refl ▸ refl ▸ tt)
+      ▸ (refl ▸ refl ▸ refl ▸ other-side m n ▸ same-mailbox m n ▸ lists-send other m r ▸ lists-send other m r ▸ refl ▸ refl ▸ refl ▸ refl ▸ refl ▸ tt)
+      ▸ (refl ▸ refl ▸ refl ▸ receive-first own n l ▸ send-first own n l ▸ refl ▸ refl ▸ refl ▸ refl ▸ refl ▸ refl ▸ refl ▸ tt)
+      ▸ (refl ▸ refl ▸ refl ▸ receive-first own n l ▸ send-first own n l ▸ refl ▸ refl ▸ refl ▸ refl ▸ refl ▸ refl ▸ refl ▸ tt)
+      ▸ (refl ▸ refl ▸ refl ▸ refl ▸ refl ▸ refl ▸ refl ▸ same-mutex m n ▸ refl ▸ refl ▸ refl ▸ refl ▸ tt)
+      ▸ (refl ▸ refl ▸ refl ▸ refl ▸ refl ▸ refl ▸ refl ▸ refl ▸ refl ▸ refl ▸ refl ▸ refl ▸ tt)
+      ▸ (refl ▸ refl ▸ refl ▸ refl ▸ refl ▸ refl ▸ refl ▸ refl ▸ or-false (has l n) ▸ refl ▸ refl ▸ refl ▸ tt)
+      ▸ (refl ▸ refl ▸ refl ▸ refl ▸ refl ▸ refl ▸ refl ▸ refl ▸ or-false (has l n) ▸ refl ▸ refl ▸ refl ▸ tt)
+      ▸ (refl ▸ refl ▸ refl ▸ refl ▸ refl ▸ refl ▸ refl ▸ refl ▸ refl ▸ refl ▸ refl ▸ refl ▸ tt)
+      ▸ tt
 
-  pub right-at : (i j : ℕ) → i < 11 → j < 11 → Right i j
+  pub right-at : (i j : ℕ) → i ≤ lastKind → j ≤ lastKind → Right i j
   right-at i j hi hj = at-kind (Right i) (at-kind (λ k. EachKind (Right k)) all-right i hi) j hj
 
 -- ---- the law
@@ -110,8 +104,11 @@ actions-law : (own other : ℕ → Action) (x y : Action)
     → (competes (posts x) (posts y) || (meets (λ k. posts (own k)) (looks x) (posts y) || meets (λ k. posts (other k)) (looks y) (posts x)))
     ≡ compared own other x y
 actions-law own other x y =
-    rw (posts-by x, posts-by y, looks-by x, looks-by y)
-    (right-at own other (targetOf x) (targetOf y) (listOf x) (listOf y) (kindOf x) (kindOf y) (kind-under x) (kind-under y))
+    (λ t.
+    competes (by-kind x .posts-by t) (by-kind y .posts-by t)
+    || (meets (λ k. posts (own k)) (by-kind x .looks-by t) (by-kind y .posts-by t)
+    || meets (λ k. posts (other k)) (by-kind y .looks-by t) (by-kind x .posts-by t)))
+    ∙ right-at own other (targetOf x) (targetOf y) (listOf x) (listOf y) (kindOf x) (kindOf y) (by-kind x .kind-most) (by-kind y .kind-most)
 
 -- the pair verdict of the model is the verdict by the codes
 pub by-code : (table : List ℕ) (x y : Name) → depends table x y ≡ byCode table x y
@@ -120,7 +117,7 @@ by-code table x y =
     ap (λ (b : Bool). eqb (x .actor) (y .actor) || b)
     (actions-law (actionOf table (x .actor)) (actionOf table (y .actor)) (actionAt table x) (actionAt table y))
 
--- so it is exactly the four cases, besides two steps of one actor
+-- so it is exactly the five cases, besides two steps of one actor
 pub by-code-cases : (table : List ℕ) (x y : Name) → (byCode table x y ≡ true) ↔ DependentCase table x y
 by-code-cases table x y = (λ t. pair-cases table x y .0 (by-code table x y ∙ t), λ d. sym (by-code table x y) ∙ pair-cases table x y .1 d)
 

@@ -1,6 +1,6 @@
--- The table of comparison codes is symmetric and agrees with the four cases: one computed test over its 11 rows of 11 entries.
+-- The table of comparison codes is symmetric and agrees with the five cases: one computed test over its 12 rows of 12 entries.
 -- Assumes nothing.
-use Prim.Native.Nat.{ℕ, _<_}
+use Prim.Native.Nat.{ℕ, suc, _≤_}
 use native.Mathlib.Omega.{arith}
 use mathlib.Core.Path.{_≡_}
 use mathlib.Core.Logic.{_⊎_, inl, inr}
@@ -9,6 +9,7 @@ use mathlib.Core.List.{List, []}
 use lib.Dec.{eqb}
 use lib.ListN.{length, getD}
 use borrow.Author.Tests.{eqb-true}
+use Rattle.table.specs.Kinds.{lastKind}
 use Rattle.trace.proofs.Bools.{which, and-left, and-right}
 use Rattle.dependence.specs.Codes.{codeOf}
 use Rattle.dependence.proofs.Tables.{every, at}
@@ -17,14 +18,14 @@ use Rattle.dependence.proofs.Tables.{every, at}
 abbrev agrees : ℕ → ℕ → ℕ → Bool
 agrees i j code = eqb code (codeOf i j) && eqb code (codeOf j i)
 
--- the test: eleven entries of which each agrees, and eleven such rows
+-- the test: an entry for each kind, of which each agrees, and so many such rows
 abbrev rowAgrees : ℕ → List ℕ → Bool
-rowAgrees i row = eqb (length row) 11 && every (agrees i) 0 row
+rowAgrees i row = eqb (length row) (suc lastKind) && every (agrees i) 0 row
 
 abbrev pub allAgree : List (List ℕ) → Bool
-allAgree codes = eqb (length codes) 11 && every rowAgrees 0 codes
+allAgree codes = eqb (length codes) (suc lastKind) && every rowAgrees 0 codes
 
-module _ (i j : ℕ) (hi : i < 11) (hj : j < 11) (codes : List (List ℕ)) where
+module _ (i j : ℕ) (hi : i ≤ lastKind) (hj : j ≤ lastKind) (codes : List (List ℕ)) where
   abbrev row : List ℕ
   row = getD codes i []
 
@@ -33,10 +34,10 @@ module _ (i j : ℕ) (hi : i < 11) (hj : j < 11) (codes : List (List ℕ)) where
 
   agreeing : allAgree codes ≡ true → (entry ≡ codeOf i j) × (entry ≡ codeOf j i)
   agreeing t =
-      let rows : length codes ≡ 11 = eqb-true (length codes) 11 (and-left (eqb (length codes) 11) (every rowAgrees 0 codes) t) in
-      let fine : rowAgrees i row ≡ true = at rowAgrees [] codes (and-right (eqb (length codes) 11) (every rowAgrees 0 codes) t) i (omega arith) in
-      let long : length row ≡ 11 = eqb-true (length row) 11 (and-left (eqb (length row) 11) (every (agrees i) 0 row) fine) in
-      let right : agrees i j entry ≡ true = at (agrees i) 0 row (and-right (eqb (length row) 11) (every (agrees i) 0 row) fine) j (omega arith) in (
+      let rows : length codes ≡ suc lastKind = eqb-true (length codes) (suc lastKind) (and-left (eqb (length codes) (suc lastKind)) (every rowAgrees 0 codes) t) in
+      let fine : rowAgrees i row ≡ true = at rowAgrees [] codes (and-right (eqb (length codes) (suc lastKind)) (every rowAgrees 0 codes) t) i (omega arith) in
+      let long : length row ≡ suc lastKind = eqb-true (length row) (suc lastKind) (and-left (eqb (length row) (suc lastKind)) (every (agrees i) 0 row) fine) in
+      let right : agrees i j entry ≡ true = at (agrees i) 0 row (and-right (eqb (length row) (suc lastKind)) (every (agrees i) 0 row) fine) j (omega arith) in (
         eqb-true entry (codeOf i j) (and-left (eqb entry (codeOf i j)) (eqb entry (codeOf j i)) right),
         eqb-true entry (codeOf j i) (and-right (eqb entry (codeOf i j)) (eqb entry (codeOf j i)) right),
       )

@@ -1,8 +1,7 @@
--- The comparison codes of the pair verdict: which comparison document 01's four cases ask for, by the kinds alone, and what each code compares of two
--- actions.
+-- The comparison codes of the pair verdict: which comparison the five cases ask for, by the kinds alone, and what each code compares of two actions.
 -- Assumes nothing: these are definitions.
 use Prim.Native.Nat.{ℕ}
-use mathlib.Core.Bool.{Bool, false, _&&_, _||_, cond}
+use mathlib.Core.Bool.{Bool, true, false, _&&_, _||_, cond}
 use mathlib.Core.List.{List, [], _∷_}
 use lib.Dec.{eqb, ltb}
 use lib.ListN.{getD}
@@ -41,6 +40,10 @@ bothLock i j = eqb i 7 && eqb j 7
 abbrev pub testUnlock : ℕ → ℕ → Bool
 testUnlock i j = (eqb i 9 || eqb i 10) && eqb j 8
 
+-- 5. both Note
+abbrev pub bothNote : ℕ → ℕ → Bool
+bothNote i j = eqb i 11 && eqb j 11
+
 -- in either order
 abbrev pub either : (ℕ → ℕ → Bool) → ℕ → ℕ → Bool
 either f i j = f i j || f j i
@@ -49,7 +52,7 @@ either f i j = f i j || f j i
 unfoldable pub codeOf : ℕ → ℕ → ℕ
 codeOf i j =
     cond (bothMail i j) 1
-    (cond (either testSend i j) 2 (cond (either testReceive i j) 3 (cond (bothLock i j) 4 (cond (either testUnlock i j) 5 0))))
+    (cond (either testSend i j) 2 (cond (either testReceive i j) 3 (cond (bothLock i j) 4 (cond (either testUnlock i j) 5 (cond (bothNote i j) 6 0)))))
 
 -- ---- what a code compares
 
@@ -70,6 +73,8 @@ comparisonOf code own m l n =
     ∷ eqb m n
     -- 5: the first lists the other's mutex
     ∷ has l n
+    -- 6: nothing, they are dependent
+    ∷ true
     ∷ [])
     code
     false

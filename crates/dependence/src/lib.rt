@@ -1,8 +1,9 @@
 // The pair verdict: whether two steps are dependent, by a table of comparison codes.
 ghost use mathlib.Core.Path.{_≡_};
-ghost use Prim.Native.Nat.{_<_, _≤_};
+ghost use Prim.Native.Nat.{_≤_};
 ghost use mathlib.Core.Bool.{_&&_};
 ghost use lib.Dec.{eqb, leb};
+ghost use Rattle.table.specs.Kinds.{lastKind};
 ghost use Rattle.table.specs.Decode.{actionOf};
 ghost use Rattle.table.specs.Promise.{WellFormed};
 ghost use Rattle.trace.specs.Order.{has};
@@ -17,19 +18,20 @@ use table::Numbers;
 use table::within;
 
 // Kind against kind, which comparison applies: 0 none, the two are independent; 1 one mailbox; 2 a listed Receive against a Send; 3 a listed Send
-// against a Receive; 4 one mutex; 5 a listed mutex against an Unlock. The columns are the kinds in the order of the rows.
-const CODES: [[u8; 11]; 11] = [
-    [0, 0, 0, 0, 0, 0, 0, 0, 0, 0, 0], // Set
-    [0, 0, 0, 0, 0, 0, 0, 0, 0, 0, 0], // Add
-    [0, 0, 0, 0, 0, 0, 0, 0, 0, 0, 0], // Lesser
-    [0, 0, 0, 1, 0, 2, 2, 0, 0, 0, 0], // Send
-    [0, 0, 0, 0, 1, 3, 3, 0, 0, 0, 0], // Receive
-    [0, 0, 0, 2, 3, 0, 0, 0, 0, 0, 0], // TestAny
-    [0, 0, 0, 2, 3, 0, 0, 0, 0, 0, 0], // WaitAny
-    [0, 0, 0, 0, 0, 0, 0, 4, 0, 0, 0], // Lock
-    [0, 0, 0, 0, 0, 0, 0, 0, 0, 5, 5], // Unlock
-    [0, 0, 0, 0, 0, 0, 0, 0, 5, 0, 0], // MutexTest
-    [0, 0, 0, 0, 0, 0, 0, 0, 5, 0, 0], // MutexWait
+// against a Receive; 4 one mutex; 5 a listed mutex against an Unlock; 6 none, the two are dependent. The columns are the kinds in the order of the rows.
+const CODES: [[u8; 12]; 12] = [
+    [0, 0, 0, 0, 0, 0, 0, 0, 0, 0, 0, 0], // Set
+    [0, 0, 0, 0, 0, 0, 0, 0, 0, 0, 0, 0], // Add
+    [0, 0, 0, 0, 0, 0, 0, 0, 0, 0, 0, 0], // Lesser
+    [0, 0, 0, 1, 0, 2, 2, 0, 0, 0, 0, 0], // Send
+    [0, 0, 0, 0, 1, 3, 3, 0, 0, 0, 0, 0], // Receive
+    [0, 0, 0, 2, 3, 0, 0, 0, 0, 0, 0, 0], // TestAny
+    [0, 0, 0, 2, 3, 0, 0, 0, 0, 0, 0, 0], // WaitAny
+    [0, 0, 0, 0, 0, 0, 0, 4, 0, 0, 0, 0], // Lock
+    [0, 0, 0, 0, 0, 0, 0, 0, 0, 5, 5, 0], // Unlock
+    [0, 0, 0, 0, 0, 0, 0, 0, 5, 0, 0, 0], // MutexTest
+    [0, 0, 0, 0, 0, 0, 0, 0, 5, 0, 0, 0], // MutexWait
+    [0, 0, 0, 0, 0, 0, 0, 0, 0, 0, 0, 6], // Note
 ];
 
 // Whether two steps of the table, actor·action each, are dependent.
@@ -53,7 +55,7 @@ pub fn dependent(table: &[u8], a: usize, k: usize, b: usize, l: usize) -> bool
 
 // The table's entry for two kinds, which is the same in either order.
 fn code(i: usize, j: usize) -> u8
-    requires { ⌜ (i < 11) × (j < 11) ⌝ }
+    requires { ⌜ (i ≤ lastKind) × (j ≤ lastKind) ⌝ }
     ensures { λ r. ⌜ (r ≡ codeOf i j) × (r ≡ codeOf j i) ⌝ }
 {
     CODES[i][j]
@@ -70,6 +72,7 @@ fn compare(code: u8, table: &[u8], a: usize, x: Action, y: Action) -> bool
         3 => lists_mail(table, a, actions::list(x), 3, actions::target(y)),
         4 => actions::target(x) == actions::target(y),
         5 => lists_mutex(actions::list(x), actions::target(y)),
+        6 => true,
         _ => false,
     }
 }

@@ -22,7 +22,7 @@ use Rattle.state.specs.State.{Positions}
 use Rattle.readiness.specs.Parts.{Answerable}
 use Rattle.execution.specs.Parts.{AtEnd}
 
-module _ {table schedule comms log ends queues names : List ℕ} {actors : List Actor} (E : AtEnd table schedule comms log ends queues names actors) where
+module _ {table schedule comms log ends queues journal names : List ℕ} {actors : List Actor} (E : AtEnd table schedule comms log ends queues journal names actors) where
   pub all-taken : accepted (machine table) initial schedule ≡ true
   all-taken = checks-taken table firstNumbers initial 0 schedule (then-right (readOf table) (checkSchedule firstNumbers table schedule) (E .checked))
 

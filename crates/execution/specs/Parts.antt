@@ -14,11 +14,11 @@ use Rattle.execution.specs.declared.Course.the-variants.{End, Refused}
 use Rattle.execution.specs.declared.Execution.{Execution}
 
 -- the table and the schedule are accepted, and the arrays hold the end state
-pub record AtEnd (table schedule comms log ends queues names′ : List ℕ) (actors : List Actor) : Type 0 where
+pub record AtEnd (table schedule comms log ends queues journal names′ : List ℕ) (actors : List Actor) : Type 0 where
   pub promise : WellFormed table
   pub checked : readyChecks table schedule ≡ accepted
-  pub end : Ended table schedule comms log ends queues names′ actors
+  pub end : Ended table schedule comms log ends queues journal names′ actors
 
-pub record Executed (table schedule comms log ends queues names′ : List ℕ) (r : Execution) : Type 0 where
+pub record Executed (table schedule comms log ends queues journal names′ : List ℕ) (r : Execution) : Type 0 where
   pub refusal : (x : Refusal) → r .course ≡ Refused x → readyChecks table schedule ≡ refused (numberOf (refusalOf x)) (positionOf (refusalOf x))
-  pub ended : r .course ≡ End → AtEnd table schedule comms log ends queues names′ (r .actors)
+  pub ended : r .course ≡ End → AtEnd table schedule comms log ends queues journal names′ (r .actors)

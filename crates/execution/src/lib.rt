@@ -1,7 +1,7 @@
 // An execution: the table read, and a schedule stepped from a fresh site. It ends in a state, held in arrays, or in a refusal.
 ghost use mathlib.Core.Path.{_≡_};
 ghost use lib.ListN.{length};
-ghost use Rattle.play.specs.Parts.{Zeros};
+ghost use Rattle.play.specs.Parts.{Empty};
 ghost use Rattle.execution.specs.Parts.{Executed};
 use answers::Refusal;
 use play::Halt;
@@ -28,11 +28,12 @@ pub fn execute(
     log: &mut [u8; 4096],
     ends: &mut [usize; 32],
     queues: &mut [u8; 72],
+    journal: &mut [usize; 257],
     names: &mut [u8; 256],
 ) -> Execution
-    requires { ⌜ Zeros (now comms) (now log) (now ends) (now queues) × (length (now names) ≡ 256) ⌝ }
+    requires { ⌜ Empty (now comms) (now log) (now ends) (now queues) (now journal) × (length (now names) ≡ 256) ⌝ }
     ensures { λ r. ⌜ Executed (now (table .entry)) (now (schedule .entry)) (now (comms .exit)) (now (log .exit)) (now (ends .exit))
-        (now (queues .exit)) (now (names .exit)) r ⌝ }
+        (now (queues .exit)) (now (journal .exit)) (now (names .exit)) r ⌝ }
 {
     let reading = reader::read(table);
     let Reading::Valid = reading else {
@@ -42,7 +43,9 @@ pub fn execute(
             actors: [fresh; 8],
         };
     };
-    let played = play::play(table, schedule, comms, log, ends, queues, names);
+    let played = play::play(
+        table, schedule, comms, log, ends, queues, journal, names,
+    );
     let actors = played.actors;
     let halt = played.halt;
     match halt {

@@ -3,7 +3,6 @@ pub mod MarkBits
 pub mod MarkGroups
 pub mod MarkPosts
 pub mod MarkLooks
-pub mod MarkKinds
 pub mod MarkPlaces
 pub mod MarkRanges
 pub mod MarksMeet

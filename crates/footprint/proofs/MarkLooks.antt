@@ -5,16 +5,16 @@ use native.Mathlib.Omega.{arith}
 use mathlib.Core.Path.{_≡_, refl, sym, _∙_, ap₂}
 use mathlib.Core.Bool.{Bool, false, _||_}
 use mathlib.Core.List.{List, [], _∷_}
-use lib.Dec.{eqb, lit≤}
+use lib.Dec.{eqb, lit<, lit≤}
 use Rattle.trace.specs.Order.{has}
 use Rattle.model.specs.Site.{Port, opposite}
-use Rattle.model.specs.Views.{Post, silent, mails, joins, leaves, Look, blind, communications, mutexes}
+use Rattle.model.specs.Views.{Post, silent, mails, joins, leaves, notes, Look, blind, communications, mutexes}
 use Rattle.model.specs.Pair.{answers, anyOf, meets}
 use Rattle.model.proofs.Upd.{test-symmetric}
 use Rattle.model.proofs.Ports.{number-test}
 use Rattle.names.specs.Steps.{Each}
 use Rattle.names.proofs.Listed.{has-any}
-use Rattle.footprint.specs.Marks.{mark, locking, unlocking, awaitingUnlock, postMarks, postMeets, listedMarks, listedMeets, allOf, lookMarks, lookMeets, SmallPost, SmallLook}
+use Rattle.footprint.specs.Marks.{mark, locking, unlocking, awaitingUnlock, noting, postMarks, postMeets, listedMarks, listedMeets, allOf, lookMarks, lookMeets, SmallPost, SmallLook}
 use Rattle.footprint.proofs.MarkBits.{meet, union-meets, meets-union, meets-none, meet-symmetric}
 use Rattle.footprint.proofs.MarkGroups.{same-group, other-group, opposite-test, postingAt, awaitingAt, posting-meets, awaiting-meets, awaiting-posting, mutex-posting, mutex-awaiting}
 
@@ -49,12 +49,14 @@ marks-answer (mails r) q k h =
     ∙ ap₂ _||_ (awaiting-posting (opposite r) q h k) (awaiting-meets (opposite r) q h k ∙ opposite-test r q)
 marks-answer (joins m) q k h = refl
 marks-answer (leaves m) q k h = refl
+marks-answer notes q k h = refl
 
 meets-answer : (r : Post) (q : Port) → q .mailbox < 8 → SmallPost r → meet (listedMeets r) (postMarks (mails q)) ≡ answers r q
 meets-answer silent q k h = refl
 meets-answer (mails r) q k h = posting-meets (opposite r) q h k ∙ opposite-test r q
 meets-answer (joins m) q k h = refl
 meets-answer (leaves m) q k h = refl
+meets-answer notes q k h = refl
 
 -- nothing in common with a mutex's marks
 marks-mutex : (r : Post) (g n : ℕ) → (g ≡ 4 → ⊥) → (g ≡ 5 → ⊥) → n < 8 → SmallPost r → meet (listedMarks r) (mark g n) ≡ false
@@ -62,12 +64,14 @@ marks-mutex silent g n four five k h = refl
 marks-mutex (mails r) g n four five k h = meet-symmetric (awaitingAt (opposite r)) (mark g n) ∙ mutex-awaiting g n (opposite r) k h four five
 marks-mutex (joins m) g n four five k h = refl
 marks-mutex (leaves m) g n four five k h = refl
+marks-mutex notes g n four five k h = refl
 
 meets-mutex : (r : Post) (g n : ℕ) → 2 ≤ g → n < 8 → SmallPost r → meet (listedMeets r) (mark g n) ≡ false
 meets-mutex silent g n two k h = refl
 meets-mutex (mails r) g n two k h = meet-symmetric (postingAt (opposite r)) (mark g n) ∙ mutex-posting g n (opposite r) k h two
 meets-mutex (joins m) g n two k h = refl
 meets-mutex (leaves m) g n two k h = refl
+meets-mutex notes g n two k h = refl
 
 -- nor with another that is listed
 marks-listed : (r s : Post) → SmallPost s → SmallPost r → meet (listedMarks r) (listedMeets s) ≡ false
@@ -76,8 +80,10 @@ marks-listed (mails r) silent k h = meets-none (awaitingAt (opposite r))
 marks-listed (mails r) (mails s) k h = awaiting-posting (opposite r) (opposite s) h k
 marks-listed (mails r) (joins n) k h = meets-none (awaitingAt (opposite r))
 marks-listed (mails r) (leaves n) k h = meets-none (awaitingAt (opposite r))
+marks-listed (mails r) notes k h = meets-none (awaitingAt (opposite r))
 marks-listed (joins m) s k h = refl
 marks-listed (leaves m) s k h = refl
+marks-listed notes s k h = refl
 
 -- ---- looks
 
@@ -91,6 +97,8 @@ module _ (own : ℕ → Post) where
       none-meet (λ j. listedMarks (own j)) (mark locking n) (λ j h. marks-mutex (own j) locking n (omega arith) (omega arith) k h) l e
   look-meets-post (communications l) (leaves n) e k =
       none-meet (λ j. listedMarks (own j)) (mark awaitingUnlock n) (λ j h. marks-mutex (own j) awaitingUnlock n (omega arith) (omega arith) k h) l e
+  look-meets-post (communications l) notes e k =
+      none-meet (λ j. listedMarks (own j)) (mark noting 0) (λ j h. marks-mutex (own j) noting 0 (omega arith) (omega arith) (lit< tt) h) l e
   look-meets-post (mutexes l) silent e k = meets-none (lookMarks own (mutexes l))
   look-meets-post (mutexes l) (mails q) e k =
       none-meet (mark awaitingUnlock) (postMeets (mails q))
@@ -100,6 +108,7 @@ module _ (own : ℕ → Post) where
       l e
   look-meets-post (mutexes l) (joins n) e k = none-meet (mark awaitingUnlock) (mark locking n) (λ m h. other-group awaitingUnlock m locking n h k (omega arith)) l e
   look-meets-post (mutexes l) (leaves n) e k = mutex-listed awaitingUnlock n k l e
+  look-meets-post (mutexes l) notes e k = none-meet (mark awaitingUnlock) (mark noting 0) (λ m h. other-group awaitingUnlock m noting 0 h (lit< tt) (omega arith)) l e
 
   met : (x : Look) (p : Post) → SmallLook own x → SmallPost p → meet (lookMeets own x) (postMarks p) ≡ meets own x p
   met blind p e k = refl
@@ -110,10 +119,13 @@ module _ (own : ℕ → Post) where
       none-meet (λ j. listedMeets (own j)) (mark locking n) (λ j h. meets-mutex (own j) locking n (lit≤ tt) k h) l e
   met (communications l) (leaves n) e k =
       none-meet (λ j. listedMeets (own j)) (mark unlocking n) (λ j h. meets-mutex (own j) unlocking n (lit≤ tt) k h) l e
+  met (communications l) notes e k =
+      none-meet (λ j. listedMeets (own j)) (mark noting 0) (λ j h. meets-mutex (own j) noting 0 (lit≤ tt) (lit< tt) h) l e
   met (mutexes l) silent e k = meets-none (lookMeets own (mutexes l))
   met (mutexes l) (mails p) e k = none-meet (mark unlocking) (postingAt p) (λ m h. mutex-posting unlocking m p h k (lit≤ tt)) l e
   met (mutexes l) (joins n) e k = none-meet (mark unlocking) (mark locking n) (λ m h. other-group unlocking m locking n h k (omega arith)) l e
   met (mutexes l) (leaves n) e k = mutex-listed unlocking n k l e
+  met (mutexes l) notes e k = none-meet (mark unlocking) (mark noting 0) (λ m h. other-group unlocking m noting 0 h (lit< tt) (omega arith)) l e
 
   pub post-meets-look : (p : Post) (x : Look) → SmallPost p → SmallLook own x → meet (postMarks p) (lookMeets own x) ≡ meets own x p
   post-meets-look p x k e = meet-symmetric (postMarks p) (lookMeets own x) ∙ met x p e k

@@ -2,9 +2,11 @@
 -- Assumes nothing but the accepted table.
 use Prim.Native.Nat.{ℕ, _<_}
 use native.Mathlib.Omega.{arith}
+use mathlib.Core.Path.{_≡_, subst}
+use mathlib.Core.Logic.{_⊎_, inl, inr}
 use mathlib.Core.List.{List}
 use Rattle.table.specs.declared.Action.{Action}
-use Rattle.table.specs.declared.Action.the-variants.{Set, Add, Lesser, Send, Receive, TestAny, WaitAny, Lock, Unlock, MutexTest, MutexWait}
+use Rattle.table.specs.declared.Action.the-variants.{TestAny, WaitAny, MutexTest, MutexWait}
 use Rattle.table.specs.declared.Numbers.{Numbers}
 use Rattle.table.specs.Format.{mutexesOf}
 use Rattle.table.specs.Promise.{WellFormed, Listing, InRange}
@@ -13,23 +15,25 @@ use Rattle.model.specs.Site.{name}
 use Rattle.model.specs.Views.{posts, Look, blind, communications, mutexes, looks, listed}
 use Rattle.model.specs.Step.{actionAt}
 use Rattle.model.specs.Pair.{postAt}
+use Rattle.model.proofs.ByKind.{Posting, quiet, sends-to, receives-from, locks, unlocks, writes-down, posting, Looking, blindly, testing, mutex-testing, looking}
 use Rattle.names.specs.Steps.{Stands, Each}
 use Rattle.names.proofs.Listed.{each-listed, each-map, listed-standing}
 use Rattle.footprint.specs.Marks.{SmallPost, SmallLook, LookStands}
 
 module _ (table : List ℕ) (accepted : WellFormed table) where
   post-small : (a k : ℕ) (x : Action) → InRange table a k x → SmallPost (posts x)
-  post-small a k (Set cell value) h = tt
-  post-small a k (Add cell other) h = tt
-  post-small a k (Lesser cell other) h = tt
-  post-small a k (Send mailbox cell) h = omega (arith, h .0, accepted .mailboxes-most)
-  post-small a k (Receive mailbox cell) h = omega (arith, h .0, accepted .mailboxes-most)
-  post-small a k (TestAny result list) h = tt
-  post-small a k (WaitAny result list) h = tt
-  post-small a k (Lock mutex) h = omega (arith, h, accepted .mutexes-most)
-  post-small a k (Unlock mutex) h = omega (arith, h, accepted .mutexes-most)
-  post-small a k (MutexTest result list) h = tt
-  post-small a k (MutexWait result list) h = tt
+  post-small a k x h = go (posting x)
+    where
+      in-range : {y : Action} → x ≡ y → InRange table a k y
+      in-range e = subst (InRange table a k) e h
+
+      go : Posting x → SmallPost (posts x)
+      go (quiet q) = rw (q .posts-none) tt
+      go (sends-to m c e) = rw e (omega (arith, in-range e .0, accepted .mailboxes-most))
+      go (receives-from m c e) = rw e (omega (arith, in-range e .0, accepted .mailboxes-most))
+      go (locks m e) = rw e (omega (arith, in-range e, accepted .mutexes-most))
+      go (unlocks m e) = rw e (omega (arith, in-range e, accepted .mutexes-most))
+      go (writes-down c e) = rw e tt
 
   pub small-post : (x : Name) → Stands table x → SmallPost (posts (actionAt table x))
   small-post x s = post-small (x .actor) (x .position) (actionAt table x) (accepted .in-range (x .actor) (x .position) (s .0) (s .1))
@@ -38,17 +42,23 @@ module _ (table : List ℕ) (accepted : WellFormed table) where
   mutexes-small l h = each-map (λ m lt. omega (arith, lt, accepted .mutexes-most)) (listed l) (each-listed (λ m. m < mutexesOf table) l h)
 
   look-standing : (x : Name) → Stands table x → (t : Action) → InRange table (x .actor) (x .position) t → LookStands table (x .actor) (looks t)
-  look-standing x s (Set cell value) h = tt
-  look-standing x s (Add cell other) h = tt
-  look-standing x s (Lesser cell other) h = tt
-  look-standing x s (Send mailbox cell) h = tt
-  look-standing x s (Receive mailbox cell) h = tt
-  look-standing x s (TestAny result list) h = listed-standing table x s list (h .1)
-  look-standing x s (WaitAny result list) h = listed-standing table x s list (h .1)
-  look-standing x s (Lock mutex) h = tt
-  look-standing x s (Unlock mutex) h = tt
-  look-standing x s (MutexTest result list) h = mutexes-small list (h .1)
-  look-standing x s (MutexWait result list) h = mutexes-small list (h .1)
+  look-standing x s t h = go (looking t)
+    where
+      in-range : {y : Action} → t ≡ y → InRange table (x .actor) (x .position) y
+      in-range e = subst (InRange table (x .actor) (x .position)) e h
+
+      tested : (list : Numbers) (result : ℕ) → (t ≡ TestAny result list) ⊎ (t ≡ WaitAny result list) → LookStands table (x .actor) (looks t)
+      tested list result (inl e) = rw e (listed-standing table x s list (in-range e .1))
+      tested list result (inr e) = rw e (listed-standing table x s list (in-range e .1))
+
+      mutex-tested : (list : Numbers) (result : ℕ) → (t ≡ MutexTest result list) ⊎ (t ≡ MutexWait result list) → LookStands table (x .actor) (looks t)
+      mutex-tested list result (inl e) = rw e (mutexes-small list (in-range e .1))
+      mutex-tested list result (inr e) = rw e (mutexes-small list (in-range e .1))
+
+      go : Looking t → LookStands table (x .actor) (looks t)
+      go (blindly e) = rw e tt
+      go (testing list w) = tested list (w .0) (w .1)
+      go (mutex-testing list w) = mutex-tested list (w .0) (w .1)
 
   pub look-stands : (x : Name) → Stands table x → LookStands table (x .actor) (looks (actionAt table x))
   look-stands x s = look-standing x s (actionAt table x) (accepted .in-range (x .actor) (x .position) (s .0) (s .1))

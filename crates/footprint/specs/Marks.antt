@@ -6,7 +6,7 @@ use mathlib.Core.List.{List, [], _∷_}
 use lib.Bits.{bitOr}
 use Rattle.trace.specs.Machine.{Name}
 use Rattle.model.specs.Site.{name, Side, sends, receives, otherSide}
-use Rattle.model.specs.Views.{Post, silent, mails, joins, leaves, posts, Look, blind, communications, mutexes, looks}
+use Rattle.model.specs.Views.{Post, silent, mails, joins, leaves, notes, posts, Look, blind, communications, mutexes, looks}
 use Rattle.model.specs.Step.{actionAt}
 use Rattle.model.specs.Pair.{postAt}
 use Rattle.names.specs.Steps.{Stands, Each}
@@ -35,12 +35,17 @@ unlocking = 3
 abbrev pub awaitingUnlock : ℕ
 awaitingUnlock = 6
 
+-- the group of the Notes: all are on the one journal
+abbrev pub noting : ℕ
+noting = 7
+
 -- what a post is
 abbrev pub postMarks : Post → ℕ
 postMarks silent = 0
 postMarks (mails p) = mark (posting (p .side)) (p .mailbox)
 postMarks (joins m) = mark locking m
 postMarks (leaves m) = mark unlocking m
+postMarks notes = mark noting 0
 
 -- what a post must not change places with: those that it competes with, and those that look for it
 abbrev pub postMeets : Post → ℕ
@@ -48,6 +53,7 @@ postMeets silent = 0
 postMeets (mails p) = bitOr (mark (posting (p .side)) (p .mailbox)) (mark (awaiting (p .side)) (p .mailbox))
 postMeets (joins m) = mark locking m
 postMeets (leaves m) = mark awaitingUnlock m
+postMeets notes = mark noting 0
 
 -- a listed communication is done by a post to the other side of its mailbox
 abbrev pub listedMarks : Post → ℕ
@@ -55,12 +61,14 @@ listedMarks silent = 0
 listedMarks (mails p) = mark (awaiting (otherSide (p .side))) (p .mailbox)
 listedMarks (joins m) = 0
 listedMarks (leaves m) = 0
+listedMarks notes = 0
 
 abbrev pub listedMeets : Post → ℕ
 listedMeets silent = 0
 listedMeets (mails p) = mark (posting (otherSide (p .side))) (p .mailbox)
 listedMeets (joins m) = 0
 listedMeets (leaves m) = 0
+listedMeets notes = 0
 
 -- the marks of all numbers in a list
 abbrev pub allOf : (ℕ → ℕ) → List ℕ → ℕ
@@ -86,6 +94,7 @@ SmallPost silent = Unit {0}
 SmallPost (mails p) = p .mailbox < 8
 SmallPost (joins m) = m < 8
 SmallPost (leaves m) = m < 8
+SmallPost notes = Unit {0}
 
 abbrev pub SmallLook : (ℕ → Post) → Look → Type 0
 SmallLook own blind = Unit {0}

@@ -7,14 +7,14 @@ ghost use lib.Dec.{leb};
 ghost use lib.Bits.{bitOr};
 ghost use Rattle.table.specs.Promise.{WellFormed};
 ghost use Rattle.model.specs.Site.{name};
-ghost use Rattle.model.specs.Views.{listed as listedIn};
+ghost use Rattle.model.specs.Views.{listed as listedIn, posts, looks};
 ghost use Rattle.model.specs.Pair.{postAt};
-ghost use Rattle.actions.specs.Fields.{postBy, lookBy};
 ghost use Rattle.names.specs.Steps.{Stands, Each};
 ghost use Rattle.footprint.specs.Marks.{mark as markOf, unlocking, awaitingUnlock, postMarks, postMeets, listedMarks, listedMeets, allOf, lookMarks, lookMeets, SmallPost, LookStands, marksOf, meetsOf};
+use table::Action;
 use table::Numbers;
 
-// A set has 56 marks, the bits 0 to 55: seven groups of eight, a mark for each mailbox or mutex.
+// A set has 64 marks: eight groups of eight, a mark for each mailbox or mutex; of the last group one mark alone is used, the journal's.
 const SENDS: usize = 0;
 
 const RECEIVES: usize = 1;
@@ -29,6 +29,8 @@ const AWAITS_RECEIVE: usize = 5;
 
 const AWAITS_UNLOCK: usize = 6;
 
+const NOTES: usize = 7;
+
 // What a step is, and what it must not change places with.
 pub struct Footprint {
     pub marks: u64,
@@ -41,40 +43,39 @@ pub fn of_step(table: &[u8], a: usize, k: usize) -> Footprint
     ensures { λ r. ⌜ (r .marks ≡ marksOf (now (table .entry)) (name a k)) × (r .meets ≡ meetsOf (now (table .entry)) (name a k)) ⌝ }
 {
     let x = table::within::action(table, a, k);
-    let kind = actions::kind(x);
-    let posted = post(kind, actions::target(x));
-    let looked = look(table, a, kind, actions::list(x));
+    let posted = post(x);
+    let looked = look(table, a, x);
     Footprint {
         marks: posted.marks | looked.marks,
         meets: posted.meets | looked.meets,
     }
 }
 
-// The footprint of what an action of this kind posts, on a mailbox or a mutex.
-fn post(kind: usize, target: usize) -> Footprint
-    requires { ⌜ SmallPost (postBy kind target) ⌝ }
-    ensures { λ r. ⌜ (r .marks ≡ postMarks (postBy kind target)) × (r .meets ≡ postMeets (postBy kind target)) ⌝ }
+// The footprint of what an action posts.
+fn post(x: Action) -> Footprint
+    requires { ⌜ SmallPost (posts x) ⌝ }
+    ensures { λ r. ⌜ (r .marks ≡ postMarks (posts x)) × (r .meets ≡ postMeets (posts x)) ⌝ }
 {
-    match kind {
-        3 => contested(SENDS, AWAITS_SEND, target),
-        4 => contested(RECEIVES, AWAITS_RECEIVE, target),
-        7 => single(LOCKS, LOCKS, target),
-        8 => single(UNLOCKS, AWAITS_UNLOCK, target),
+    match x {
+        Action::Send { mailbox, cell: _ } => contested(SENDS, AWAITS_SEND, mailbox),
+        Action::Receive { mailbox, cell: _ } => contested(RECEIVES, AWAITS_RECEIVE, mailbox),
+        Action::Lock { mutex } => single(LOCKS, LOCKS, mutex),
+        Action::Unlock { mutex } => single(UNLOCKS, AWAITS_UNLOCK, mutex),
+        Action::Note { cell: _ } => single(NOTES, NOTES, 0),
         _ => Footprint { marks: 0, meets: 0 },
     }
 }
 
-// The footprint of what an action of this kind looks at, in its actor's list.
-fn look(table: &[u8], a: usize, kind: usize, list: Numbers) -> Footprint
-    requires { ⌜ WellFormed (now table) × LookStands (now table) a (lookBy kind (listedIn list)) ⌝ }
-    ensures { λ r. ⌜ (r .marks ≡ lookMarks (postAt (now (table .entry)) a) (lookBy kind (listedIn list)))
-        × (r .meets ≡ lookMeets (postAt (now (table .entry)) a) (lookBy kind (listedIn list))) ⌝ }
+// The footprint of what an action looks at, in its actor's list.
+fn look(table: &[u8], a: usize, x: Action) -> Footprint
+    requires { ⌜ WellFormed (now table) × LookStands (now table) a (looks x) ⌝ }
+    ensures { λ r. ⌜ (r .marks ≡ lookMarks (postAt (now (table .entry)) a) (looks x)) × (r .meets ≡ lookMeets (postAt (now (table .entry)) a) (looks x)) ⌝ }
 {
-    match kind {
-        5 => communications(table, a, list),
-        6 => communications(table, a, list),
-        9 => mutexes(list),
-        10 => mutexes(list),
+    match x {
+        Action::TestAny { result: _, list } => communications(table, a, list),
+        Action::WaitAny { result: _, list } => communications(table, a, list),
+        Action::MutexTest { result: _, list } => mutexes(list),
+        Action::MutexWait { result: _, list } => mutexes(list),
         _ => Footprint { marks: 0, meets: 0 },
     }
 }
@@ -116,7 +117,7 @@ fn communication(table: &[u8], a: usize, count: usize, place: usize, k: usize) -
         return Footprint { marks: 0, meets: 0 };
     }
     let x = table::within::action(table, a, k);
-    listed(actions::kind(x), actions::target(x))
+    listed(x)
 }
 
 // The same of mutex m, which awaits an Unlock.
@@ -130,14 +131,14 @@ fn mutex(count: usize, place: usize, m: usize) -> Footprint
     single(AWAITS_UNLOCK, UNLOCKS, m)
 }
 
-// The footprint of looking at an action of this kind, on a mailbox: a Send awaits a Receive there, and a Receive a Send.
-fn listed(kind: usize, target: usize) -> Footprint
-    requires { ⌜ SmallPost (postBy kind target) ⌝ }
-    ensures { λ r. ⌜ (r .marks ≡ listedMarks (postBy kind target)) × (r .meets ≡ listedMeets (postBy kind target)) ⌝ }
+// The footprint of looking at an action: a Send awaits a Receive on its mailbox, and a Receive a Send.
+fn listed(x: Action) -> Footprint
+    requires { ⌜ SmallPost (posts x) ⌝ }
+    ensures { λ r. ⌜ (r .marks ≡ listedMarks (posts x)) × (r .meets ≡ listedMeets (posts x)) ⌝ }
 {
-    match kind {
-        3 => single(AWAITS_RECEIVE, RECEIVES, target),
-        4 => single(AWAITS_SEND, SENDS, target),
+    match x {
+        Action::Send { mailbox, cell: _ } => single(AWAITS_RECEIVE, RECEIVES, mailbox),
+        Action::Receive { mailbox, cell: _ } => single(AWAITS_SEND, SENDS, mailbox),
         _ => Footprint { marks: 0, meets: 0 },
     }
 }
@@ -155,7 +156,7 @@ fn union(x: Footprint, y: Footprint, z: Footprint, w: Footprint) -> Footprint
 
 // A mark of one group, which meets the mark of another group for the same mailbox or mutex.
 fn single(group: usize, other: usize, number: usize) -> Footprint
-    requires { ⌜ (group < 7) × (other < 7) × (number < 8) ⌝ }
+    requires { ⌜ (group < 8) × (other < 8) × (number < 8) ⌝ }
     ensures { λ r. ⌜ (r .marks ≡ markOf group number) × (r .meets ≡ markOf other number) ⌝ }
 {
     Footprint {
@@ -166,7 +167,7 @@ fn single(group: usize, other: usize, number: usize) -> Footprint
 
 // The same, which meets its own group's mark too.
 fn contested(group: usize, other: usize, number: usize) -> Footprint
-    requires { ⌜ (group < 7) × (other < 7) × (number < 8) ⌝ }
+    requires { ⌜ (group < 8) × (other < 8) × (number < 8) ⌝ }
     ensures { λ r. ⌜ (r .marks ≡ markOf group number) × (r .meets ≡ bitOr (markOf group number) (markOf other number)) ⌝ }
 {
     let own = mark(group, number);
@@ -178,7 +179,7 @@ fn contested(group: usize, other: usize, number: usize) -> Footprint
 
 // One of the eight marks of a group.
 fn mark(group: usize, number: usize) -> u64
-    requires { ⌜ (group < 7) × (number < 8) ⌝ }
+    requires { ⌜ (group < 8) × (number < 8) ⌝ }
     ensures { λ r. ⌜ r ≡ markOf group number ⌝ }
 {
     1u64 << (8 * group + number)

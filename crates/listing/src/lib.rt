@@ -36,6 +36,7 @@ fn write(table: &[u8], schedule: &[u8], out: &mut [u8]) -> usize
     let mut log = [0u8; 4096];
     let mut ends = [0usize; 32];
     let mut queues = [0u8; 72];
+    let mut journal = [0usize; 257];
     let mut names = [0u8; 256];
     let execution = execution::execute(
         table,
@@ -44,6 +45,7 @@ fn write(table: &[u8], schedule: &[u8], out: &mut [u8]) -> usize
         &mut log,
         &mut ends,
         &mut queues,
+        &mut journal,
         &mut names,
     );
     let course = execution.course;

@@ -24,9 +24,9 @@ abbrev pub statusFrom : List ℕ → ℕ → Actor → (comms queues : List ℕ)
 statusFrom table a r comms queues =
     cond (ltb (r .position) (countOf table a)) (Model.stepStatus (stepFrom table a r comms queues [] [])) Model.finished
 
--- the page of the state in the arrays: the ports' logs play no part in it
+-- the page of the state in the arrays: the ports' logs and the journal play no part in it
 abbrev pub pageFrom : List ℕ → List Actor → (comms queues : List ℕ) → List ℕ
-pageFrom table actors comms queues = Model.page table (siteWith actors comms queues [] [])
+pageFrom table actors comms queues = Model.page table (siteWith actors comms queues [] [] [])
 
 -- a state that can be asked who is ready, and room for its page
 pub record Pageable (table : List ℕ) (actors : List Actor) (comms queues buf : List ℕ) : Type 0 where

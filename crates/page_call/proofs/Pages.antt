@@ -18,10 +18,10 @@ use Rattle.page.proofs.Laws.{page-from}
 use Rattle.execution.specs.Parts.{AtEnd}
 use Rattle.execution.proofs.Ends.{all-taken, positions-small, answerable}
 
-module _ {table schedule comms log ends queues names : List ℕ} {actors : List Actor} (E : AtEnd table schedule comms log ends queues names actors) where
+module _ {table schedule comms log ends queues journal names : List ℕ} {actors : List Actor} (E : AtEnd table schedule comms log ends queues journal names actors) where
   -- the page in the arrays is the end state's
-  pub page-held : pageFrom table actors comms queues ≡ page table (siteOf actors comms log ends queues)
-  page-held = sym (page-from table actors comms queues log ends)
+  pub page-held : pageFrom table actors comms queues ≡ page table (siteOf actors comms log ends queues journal)
+  page-held = sym (page-from table actors comms queues log ends journal)
 
   -- of a file of bytes, no page's length passes 816
   pub page-small : Bytes table → length (pageFrom table actors comms queues) ≤ 816

@@ -18,6 +18,7 @@ pub fn page(table: &[u8], schedule: &[u8], buffer: &mut [u8]) -> LengthAnswer
     let mut log = [0u8; 4096];
     let mut ends = [0usize; 32];
     let mut queues = [0u8; 72];
+    let mut journal = [0usize; 257];
     let mut names = [0u8; 256];
     let execution = execution::execute(
         table,
@@ -26,6 +27,7 @@ pub fn page(table: &[u8], schedule: &[u8], buffer: &mut [u8]) -> LengthAnswer
         &mut log,
         &mut ends,
         &mut queues,
+        &mut journal,
         &mut names,
     );
     let course = execution.course;

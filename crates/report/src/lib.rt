@@ -14,11 +14,12 @@ pub fn write(
     log: &[u8; 4096],
     ends: &[usize; 32],
     queues: &[u8; 72],
+    journal: &[usize; 257],
     buf: &mut [u8],
 ) -> usize
-    requires { ⌜ Reportable (now table) actors (now comms) (now log) (now ends) (now queues) (now buf) ⌝ }
+    requires { ⌜ Reportable (now table) actors (now comms) (now log) (now ends) (now queues) (now journal) (now buf) ⌝ }
     ensures { λ r. ⌜ Wrote (now (buf .entry))
-        (report (now (table .entry)) (siteOf actors (now (comms .entry)) (now (log .entry)) (now (ends .entry)) (now (queues .entry))))
+        (report (now (table .entry)) (siteOf actors (now (comms .entry)) (now (log .entry)) (now (ends .entry)) (now (queues .entry)) (now (journal .entry))))
         (now (buf .exit)) r ⌝ }
 {
     let n = access::actors(table);
@@ -27,5 +28,6 @@ pub fn write(
     let m = access::mailboxes(table);
     let mutexes = boxes + queue_sections::boxes_part(log, ends, m, &mut buf[boxes..]);
     let x = access::mutexes(table);
-    mutexes + queue_sections::mutexes_part(queues, x, &mut buf[mutexes..])
+    let entries = mutexes + queue_sections::mutexes_part(queues, x, &mut buf[mutexes..]);
+    entries + journal::part(journal, &mut buf[entries..])
 }

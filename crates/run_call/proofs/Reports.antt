@@ -15,20 +15,21 @@ use Rattle.report.specs.Parts.{Reportable}
 use Rattle.execution.specs.Parts.{AtEnd}
 use Rattle.execution.proofs.Ends.{all-taken, positions-small}
 
-module _ {table schedule comms log ends queues names : List ℕ} {actors : List Actor} (E : AtEnd table schedule comms log ends queues names actors) where
-  -- no report's length passes 2,912
-  pub report-small : length (report table (siteOf actors comms log ends queues)) ≤ 2912
+module _ {table schedule comms log ends queues journal names : List ℕ} {actors : List Actor} (E : AtEnd table schedule comms log ends queues journal names actors) where
+  -- no report's length passes 4,450
+  pub report-small : length (report table (siteOf actors comms log ends queues journal)) ≤ 4450
   report-small =
       let fit = reports-fit table (E .promise) in
-      let small : length (report table (endState table schedule)) ≤ 2912 = omega (arith, fit .fits schedule (all-taken E), fit .room) in
-      subst (λ (s : Site). length (report table s) ≤ 2912) (sym (E .end .site)) small
+      let small : length (report table (endState table schedule)) ≤ 4450 = omega (arith, fit .fits schedule (all-taken E), fit .room) in
+      subst (λ (s : Site). length (report table s) ≤ 4450) (sym (E .end .site)) small
 
-  pub reportable : (buffer : List ℕ) → 2912 ≤ length buffer → Reportable table actors comms log ends queues buffer
+  pub reportable : (buffer : List ℕ) → 4450 ≤ length buffer → Reportable table actors comms log ends queues journal buffer
   reportable buffer room =
       record {
         accepted = E .promise;
         positions = positions-small E;
         mail-room = E .end .mail-room;
         queue-room = E .end .queue-room;
+        journal-room = E .end .journal-room;
         room = omega (arith, report-small);
       }

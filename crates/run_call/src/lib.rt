@@ -11,13 +11,14 @@ pub fn run(table: &[u8], schedule: &[u8], report: &mut [u8]) -> LengthAnswer
     ensures answer { λ r. ⌜ lengthResult r ≡ runOf (now (table .entry)) (now (schedule .entry)) (now (report .entry)) .result ⌝ }
     ensures lent { λ r. ⌜ now (report .exit) ≡ runOf (now (table .entry)) (now (schedule .entry)) (now (report .entry)) .lent ⌝ }
 {
-    if report.len() < 2912 {
+    if report.len() < 4450 {
         return LengthAnswer::Refused(Refusal::ReportRoom);
     }
     let mut comms = [0u64; 256];
     let mut log = [0u8; 4096];
     let mut ends = [0usize; 32];
     let mut queues = [0u8; 72];
+    let mut journal = [0usize; 257];
     let mut names = [0u8; 256];
     let execution = execution::execute(
         table,
@@ -26,13 +27,16 @@ pub fn run(table: &[u8], schedule: &[u8], report: &mut [u8]) -> LengthAnswer
         &mut log,
         &mut ends,
         &mut queues,
+        &mut journal,
         &mut names,
     );
     let course = execution.course;
     match course {
         Course::End => {
             let actors = execution.actors;
-            let n = report::write(table, actors, &comms, &log, &ends, &queues, report);
+            let n = report::write(
+                table, actors, &comms, &log, &ends, &queues, &journal, report,
+            );
             LengthAnswer::Length(n as u32)
         }
         Course::Refused(refusal) => LengthAnswer::Refused(refusal),

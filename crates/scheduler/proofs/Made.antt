@@ -27,8 +27,8 @@ accepted-ends : (halt : Halt) → haltOf firstNumbers halt ≡ accepted → halt
 accepted-ends End h = refl
 accepted-ends (At stop) h = absurd (refused-not (sym (stop-refused firstNumbers stop) ∙ h))
 
-module _ (table : List ℕ) (policy : Policy) (ok : WellFormed table) {comms log ends queues held : List ℕ} {r : Played}
-    (P : PlayedRight table (scheduleBy table policy) comms log ends queues held r) where
+module _ (table : List ℕ) (policy : Policy) (ok : WellFormed table) {comms log ends queues journal held : List ℕ} {r : Played}
+    (P : PlayedRight table (scheduleBy table policy) comms log ends queues journal held r) where
   at-end : r .halt ≡ End
   at-end =
       accepted-ends (r .halt)

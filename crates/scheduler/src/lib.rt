@@ -27,6 +27,7 @@ pub fn schedule(table: &[u8], policy: Policy, entries: &mut [u8]) -> LengthAnswe
     let mut log = [0u8; 4096];
     let mut ends = [0usize; 32];
     let mut queues = [0u8; 72];
+    let mut journal = [0usize; 257];
     let mut names = [0u8; 256];
     let played = play::make(
         table,
@@ -35,6 +36,7 @@ pub fn schedule(table: &[u8], policy: Policy, entries: &mut [u8]) -> LengthAnswe
         &mut log,
         &mut ends,
         &mut queues,
+        &mut journal,
         &mut names,
     );
     let n = played.steps;

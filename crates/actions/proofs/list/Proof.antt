@@ -1,40 +1,20 @@
--- `actions::list` meets its contract: each arm's action says what it lists.
+-- `actions::list` meets its contract: each arm's action says what it lists, and an action of any other kind lists nothing.
 -- Assumes nothing.
-use mathlib.Core.Path.{sym, ap}
+use Prim.Native.Nat.{ℕ}
+use mathlib.Core.Path.{_≡_, refl, _∙_, sym, ap}
+use mathlib.Core.Logic.{_⊎_, inl, inr}
+use mathlib.Core.List.{[], _∷_}
+use lib.ListN.{take}
 use borrow.Author.Needs.{needs}
+use Rattle.table.specs.declared.Action.{Action}
+use Rattle.table.specs.declared.Action.the-variants.{TestAny, WaitAny, MutexTest, MutexWait}
+use Rattle.table.specs.declared.Numbers.{Numbers}
+use Rattle.table.proofs.OtherKinds.{other-kind}
+use Rattle.model.specs.Views.{listed}
+use Rattle.model.proofs.ByKind.{Looking, blindly, testing, mutex-testing, looking}
 use Rattle.actions.specs.Fields.{listOf}
 use Rattle.actions.proofs.list.Statement.{statement}
 use Rattle.actions.proofs.list.Tie as tie
-
-enum-told : tie.Need-enum-told
-enum-told c = search needs
-
-none-requires : tie.Need-none-requires
-none-requires c κs = search needs
-
-enum-told-2 : tie.Need-enum-told-2
-enum-told-2 c = search needs
-
-none-requires-2 : tie.Need-none-requires-2
-none-requires-2 c κs = search needs
-
-enum-told-3 : tie.Need-enum-told-3
-enum-told-3 c = search needs
-
-none-requires-3 : tie.Need-none-requires-3
-none-requires-3 c κs = search needs
-
-enum-told-4 : tie.Need-enum-told-4
-enum-told-4 c = search needs
-
-none-requires-4 : tie.Need-none-requires-4
-none-requires-4 c κs = search needs
-
-enum-told-5 : tie.Need-enum-told-5
-enum-told-5 c = search needs
-
-none-requires-5 : tie.Need-none-requires-5
-none-requires-5 c κs = search needs
 
 enum-known-x : tie.Need-enum-known-x
 enum-known-x c = search needs
@@ -42,87 +22,60 @@ enum-known-x c = search needs
 enum-known-x-2 : tie.Need-enum-known-x-2
 enum-known-x-2 c = search needs
 
-enum-told-6 : tie.Need-enum-told-6
-enum-told-6 c = search needs
-
-none-requires-6 : tie.Need-none-requires-6
-none-requires-6 c κs = search needs
-
-enum-told-7 : tie.Need-enum-told-7
-enum-told-7 c = search needs
-
-none-requires-7 : tie.Need-none-requires-7
-none-requires-7 c κs = search needs
-
 enum-known-x-3 : tie.Need-enum-known-x-3
 enum-known-x-3 c = search needs
 
 enum-known-x-4 : tie.Need-enum-known-x-4
 enum-known-x-4 c = search needs
 
+none-requires : tie.Need-none-requires
+none-requires c κs = search needs
+
 returns : tie.Need-returns
-returns c = search needs
+returns c = sym (ap listOf (c .before .x .given .1))
 
 returns-2 : tie.Need-returns-2
-returns-2 c = search needs
+returns-2 c = sym (ap listOf (c .before .x2 .given .1))
 
 returns-3 : tie.Need-returns-3
-returns-3 c = search needs
+returns-3 c = sym (ap listOf (c .before .x3 .given .1))
 
 returns-4 : tie.Need-returns-4
-returns-4 c = search needs
+returns-4 c = sym (ap listOf (c .before .x4 .given .1))
 
 returns-5 : tie.Need-returns-5
-returns-5 c = search needs
+returns-5 c = nothing ∙ none (looking x)
+  where
+    x : Action
+    x = c .before .before .args .x
 
-returns-6 : tie.Need-returns-6
-returns-6 c = sym (ap listOf (c .before .x .given .1))
+    nothing : listed (c .none .result) ≡ []
+    nothing = rw (c .none .ensures)
 
-returns-7 : tie.Need-returns-7
-returns-7 c = sym (ap listOf (c .before .x2 .given .1))
+    tested : (list : Numbers) (result : ℕ) → (x ≡ TestAny result list) ⊎ (x ≡ WaitAny result list) → ⊥
+    tested list result (inl e) = other-kind (5 ∷ 6 ∷ 9 ∷ 10 ∷ []) (c .before .match .keys5) (TestAny result list) tt e
+    tested list result (inr e) = other-kind (5 ∷ 6 ∷ 9 ∷ 10 ∷ []) (c .before .match .keys5) (WaitAny result list) tt e
 
-returns-8 : tie.Need-returns-8
-returns-8 c = search needs
+    mutex-tested : (list : Numbers) (result : ℕ) → (x ≡ MutexTest result list) ⊎ (x ≡ MutexWait result list) → ⊥
+    mutex-tested list result (inl e) = other-kind (5 ∷ 6 ∷ 9 ∷ 10 ∷ []) (c .before .match .keys5) (MutexTest result list) tt e
+    mutex-tested list result (inr e) = other-kind (5 ∷ 6 ∷ 9 ∷ 10 ∷ []) (c .before .match .keys5) (MutexWait result list) tt e
 
-returns-9 : tie.Need-returns-9
-returns-9 c = search needs
-
-returns-10 : tie.Need-returns-10
-returns-10 c = sym (ap listOf (c .before .x3 .given .1))
-
-returns-11 : tie.Need-returns-11
-returns-11 c = sym (ap listOf (c .before .x4 .given .1))
+    none : Looking x → [] ≡ listOf x
+    none (blindly e) = rw e
+    none (testing list w) = absurd (tested list (w .0) (w .1))
+    none (mutex-testing list w) = absurd (mutex-tested list (w .0) (w .1))
 
 pub list-spec : {M : Type 1} → statement M
 list-spec =
     tie.close
     (tie.spec
-    enum-told
-    none-requires
-    enum-told-2
-    none-requires-2
-    enum-told-3
-    none-requires-3
-    enum-told-4
-    none-requires-4
-    enum-told-5
-    none-requires-5
     enum-known-x
     enum-known-x-2
-    enum-told-6
-    none-requires-6
-    enum-told-7
-    none-requires-7
     enum-known-x-3
     enum-known-x-4
+    none-requires
     returns
     returns-2
     returns-3
     returns-4
-    returns-5
-    returns-6
-    returns-7
-    returns-8
-    returns-9
-    returns-10
-    returns-11)
+    returns-5)

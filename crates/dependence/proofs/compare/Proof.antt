@@ -19,14 +19,15 @@ use Rattle.dependence.proofs.compare.Tie as tie
 
 -- a code of no comparison
 no-code : (code : ℕ) (own : ℕ → Action) (x y : Action) → (code ≡ 1 → ⊥) → (code ≡ 2 → ⊥) → (code ≡ 3 → ⊥) → (code ≡ 4 → ⊥)
-    → (code ≡ 5 → ⊥) → false ≡ comparison code own x y
-no-code zero own x y h1 h2 h3 h4 h5 = refl
-no-code (suc zero) own x y h1 h2 h3 h4 h5 = absurd (h1 refl)
-no-code (suc (suc zero)) own x y h1 h2 h3 h4 h5 = absurd (h2 refl)
-no-code (suc (suc (suc zero))) own x y h1 h2 h3 h4 h5 = absurd (h3 refl)
-no-code (suc (suc (suc (suc zero)))) own x y h1 h2 h3 h4 h5 = absurd (h4 refl)
-no-code (suc (suc (suc (suc (suc zero))))) own x y h1 h2 h3 h4 h5 = absurd (h5 refl)
-no-code (suc (suc (suc (suc (suc (suc code)))))) own x y h1 h2 h3 h4 h5 = refl
+    → (code ≡ 5 → ⊥) → (code ≡ 6 → ⊥) → false ≡ comparison code own x y
+no-code zero own x y h1 h2 h3 h4 h5 h6 = refl
+no-code (suc zero) own x y h1 h2 h3 h4 h5 h6 = absurd (h1 refl)
+no-code (suc (suc zero)) own x y h1 h2 h3 h4 h5 h6 = absurd (h2 refl)
+no-code (suc (suc (suc zero))) own x y h1 h2 h3 h4 h5 h6 = absurd (h3 refl)
+no-code (suc (suc (suc (suc zero)))) own x y h1 h2 h3 h4 h5 h6 = absurd (h4 refl)
+no-code (suc (suc (suc (suc (suc zero))))) own x y h1 h2 h3 h4 h5 h6 = absurd (h5 refl)
+no-code (suc (suc (suc (suc (suc (suc zero)))))) own x y h1 h2 h3 h4 h5 h6 = absurd (h6 refl)
+no-code (suc (suc (suc (suc (suc (suc (suc code))))))) own x y h1 h2 h3 h4 h5 h6 = refl
 
 target-requires : tie.Need-target-requires
 target-requires c κs = search needs
@@ -110,9 +111,13 @@ returns-5 c =
 
 returns-6 : tie.Need-returns-6
 returns-6 c =
+    let x = c .before .before .args in sym (ap (λ code. comparison code (actionOf (x .table .now) (x .a)) (x .x) (x .y)) (c .match .keys6))
+
+returns-7 : tie.Need-returns-7
+returns-7 c =
     let x = c .before .before .args in
     let other = c .match .rest in
-    no-code (x .code) (actionOf (x .table .now) (x .a)) (x .x) (x .y) (other .0 .0 .0 .0 .1) (other .0 .0 .0 .1) (other .0 .0 .1) (other .0 .1)
+    no-code (x .code) (actionOf (x .table .now) (x .a)) (x .x) (x .y) (other .0 .0 .0 .0 .0 .1) (other .0 .0 .0 .0 .1) (other .0 .0 .0 .1) (other .0 .0 .1) (other .0 .1)
     (other .1)
 
 pub compare-spec : {M : Type 1} → statement M
@@ -137,4 +142,5 @@ compare-spec =
     returns-3
     returns-4
     returns-5
-    returns-6)
+    returns-6
+    returns-7)

@@ -4,7 +4,7 @@ use mathlib.Core.Path.{sym}
 use native.Mathlib.Omega.{arith}
 use Rattle.model.specs.Site.{name}
 use Rattle.model.proofs.PairCases.{depends-own}
-use Rattle.actions.proofs.ByKind.{kind-under}
+use Rattle.actions.proofs.ByKind.{by-kind}
 use Rattle.dependence.proofs.CodeLaw.{higher-first, lower-first}
 use Rattle.dependence.proofs.CodeRanges.{own-listed}
 use borrow.Author.Needs.{needs}
@@ -30,8 +30,8 @@ kind-requires-2 c κs = search needs
 
 code-requires : tie.Need-code-requires
 code-requires c κs = (
-  omega (arith, c .before .kind .ensures, kind-under (c .before .before .before .action .result)),
-  omega (arith, c .kind2 .ensures, kind-under (c .before .before .action2 .result)),
+  omega (arith, c .before .kind .ensures, by-kind (c .before .before .before .action .result) .kind-most),
+  omega (arith, c .kind2 .ensures, by-kind (c .before .before .action2 .result) .kind-most),
 )
 
 compare-requires : tie.Need-compare-requires
@@ -40,7 +40,7 @@ compare-requires c κs =
     let p = c .before .before .before .before .before .before .before .before .pre in (
       p .0,
       own-listed (x .table .now) (p .0) (name (x .b) (x .l)) (p .2) (c .before .before .before .before .action2 .ensures) (c .before .before .kind2 .ensures)
-          (omega (arith, c .before .before .before .kind .ensures, kind-under (c .before .before .before .before .before .action .result))) (c .before .code .ensures .1),
+          (omega (arith, c .before .before .before .kind .ensures, by-kind (c .before .before .before .before .before .action .result) .kind-most)) (c .before .code .ensures .1),
     )
 
 returns-2 : tie.Need-returns-2
@@ -60,7 +60,7 @@ compare-requires-2 c κs =
     let p = c .before .before .before .before .before .before .before .before .pre in (
       p .0,
       own-listed (x .table .now) (p .0) (name (x .a) (x .k)) (p .1) (c .before .before .before .before .before .action .ensures) (c .before .before .before .kind .ensures)
-          (omega (arith, c .before .before .kind2 .ensures, kind-under (c .before .before .before .before .action2 .result))) (c .before .code .ensures .0),
+          (omega (arith, c .before .before .kind2 .ensures, by-kind (c .before .before .before .before .action2 .result) .kind-most)) (c .before .code .ensures .0),
     )
 
 returns-3 : tie.Need-returns-3

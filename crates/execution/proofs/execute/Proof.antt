@@ -30,7 +30,7 @@ returns c =
     (then-refused (readOf (s .args .table .now)) (checkSchedule firstNumbers (s .args .table .now) (s .args .schedule .now)) _ _ (sym (r .ensures .0) ∙ refusing (r .result) (c .before .match .keys2)))
 
 play-requires : tie.Need-play-requires
-play-requires c κs = record { accepted = c .before .before .before .before .before .before .before .read .ensures .1 (c .before .before .before .before .before .enum-told .given .1); zeros = c .before .before .before .before .before .before .before .before .before .before .pre .0; names-long = c .before .before .before .before .before .before .before .before .before .before .pre .1 }
+play-requires c κs = record { accepted = c .before .before .before .before .before .before .before .before .read .ensures .1 (c .before .before .before .before .before .before .enum-told .given .1); empty = c .before .before .before .before .before .before .before .before .before .before .before .pre .0; names-long = c .before .before .before .before .before .before .before .before .before .before .before .pre .1 }
 
 enum-told-2 : tie.Need-enum-told-2
 enum-told-2 c = search needs
@@ -40,9 +40,9 @@ enum-known-halt c = search needs
 
 returns-2 : tie.Need-returns-2
 returns-2 c =
-    let s = c .before .before .before .before .before .before .before .before .before .before .before .before .before .before in
-    let r = c .before .before .before .before .before .before .before .before .before .before .before .read in
-    let valid = c .before .before .before .before .before .before .before .before .before .enum-told .given .1 in
+    let s = c .before .before .before .before .before .before .before .before .before .before .before .before .before .before .before in
+    let r = c .before .before .before .before .before .before .before .before .before .before .before .before .read in
+    let valid = c .before .before .before .before .before .before .before .before .before .before .enum-told .given .1 in
     let p = c .before .before .before .play .ensures in
     let end = c .enum-told2 .given .1 in
     ended-so
@@ -56,11 +56,11 @@ returns-2 c =
 
 returns-3 : tie.Need-returns-3
 returns-3 c =
-    let s = c .before .before .before .before .before .before .before .before .before .before .before .before .before .before .before in
-    let r = c .before .before .before .before .before .before .before .before .before .before .before .before .read in
+    let s = c .before .before .before .before .before .before .before .before .before .before .before .before .before .before .before .before in
+    let r = c .before .before .before .before .before .before .before .before .before .before .before .before .before .read in
     let stop = c .before .halt .given .0 .0 in
     refused-so (First stop)
-    (then-accepted (readOf (s .args .table .now)) (checkSchedule firstNumbers (s .args .table .now) (s .args .schedule .now)) (sym (r .ensures .0) ∙ ap outcome (c .before .before .before .before .before .before .before .before .before .before .enum-told .given .1))
+    (then-accepted (readOf (s .args .table .now)) (checkSchedule firstNumbers (s .args .table .now) (s .args .schedule .now)) (sym (r .ensures .0) ∙ ap outcome (c .before .before .before .before .before .before .before .before .before .before .before .enum-told .given .1))
     ∙ (sym (c .before .before .before .before .play .ensures .halted firstNumbers) ∙ ap (haltOf firstNumbers) (c .before .halt .given .1) ∙ stop-refused firstNumbers stop))
 
 pub execute-spec : {M : Type 1} → statement M

@@ -1,4 +1,4 @@
--- `report::write` meets its contract: the four sections, each in the rest after the one before it. Assumes nothing.
+-- `report::write` meets its contract: the five sections, each in the rest after the one before it. Assumes nothing.
 use mathlib.Core.Path.{_≡_, refl, sym, subst}
 use mathlib.Core.List.{List, _++_}
 use Prim.Native.Nat.{ℕ, _+_, _<_, _≤_}
@@ -7,8 +7,8 @@ use borrow.Author.Needs.{needs}
 use lib.ListN.{length, length-append}
 use Rattle.table.specs.Format.{actorsOf, mailboxesOf, mutexesOf, countOf}
 use Rattle.model.specs.Site.{Site}
-use Rattle.model.specs.Report.{report}
-use Rattle.state.specs.State.{siteOf}
+use Rattle.model.specs.Report.{journalBytes, report}
+use Rattle.state.specs.State.{journalOf, siteOf}
 use Rattle.writing.specs.Written.{Wrote}
 use Rattle.actor_sections.specs.Parts.{actorsBytes, actionsBytes}
 use Rattle.queue_sections.specs.Parts.{boxesBytes, mutexesBytes}
@@ -30,11 +30,14 @@ sec3 s = boxesBytes (s .args .log .now) (s .args .ends .now) (mailboxesOf (s .ar
 abbrev sec4 : (s : tie.Start) → List ℕ
 sec4 s = mutexesBytes (s .args .queues .now) (mutexesOf (s .args .table .now))
 
+abbrev sec5 : (s : tie.Start) → List ℕ
+sec5 s = journalBytes (journalOf (s .args .journal .now))
+
 abbrev whole : (s : tie.Start) → List ℕ
-whole s = sec1 s ++ (sec2 s ++ (sec3 s ++ sec4 s))
+whole s = sec1 s ++ (sec2 s ++ (sec3 s ++ (sec4 s ++ sec5 s)))
 
 abbrev site : (s : tie.Start) → Site
-site s = siteOf (s .args .actors) (s .args .comms .now) (s .args .log .now) (s .args .ends .now) (s .args .queues .now)
+site s = siteOf (s .args .actors) (s .args .comms .now) (s .args .log .now) (s .args .ends .now) (s .args .queues .now) (s .args .journal .now)
 
 same : (s : tie.Start) → whole s ≡ report (s .args .table .now) (site s)
 unfolding report
@@ -52,7 +55,7 @@ actors-part-requires c κs =
     let n = sym (c .before .actors .ensures) in (
       subst (λ (k : ℕ). k ≤ 8) n (s .pre .accepted .actors-most),
       s .pre .positions,
-      subst (λ (k : ℕ). length (actorsBytes (s .args .actors) k) ≤ length (s .args .buf .now)) n (omega (arith, fits s, length-append (sec1 s) (sec2 s ++ (sec3 s ++ sec4 s)))),
+      subst (λ (k : ℕ). length (actorsBytes (s .args .actors) k) ≤ length (s .args .buf .now)) n (omega (arith, fits s, length-append (sec1 s) (sec2 s ++ (sec3 s ++ (sec4 s ++ sec5 s))))),
     )
 
 -- the places after each section: where the function starts, the section before, the buffer and its end
@@ -86,11 +89,20 @@ at3 c = at2 (past3 c) + c .before .before .boxes-part .result
 abbrev past4 : tie.After-slice-known5 → tie.After-slice-known4
 past4 c = c .before .before .before .before .before
 
+abbrev buf4 : tie.After-slice-known5 → List ℕ
+buf4 c = joined (at3 (past4 c)) (buf3 (past4 c)) (c .before .before .mutexes-part .last .1 .1 .0)
+
+abbrev at4 : tie.After-slice-known5 → ℕ
+at4 c = at3 (past4 c) + c .before .before .mutexes-part .result
+
+abbrev past5 : tie.After-slice-known6 → tie.After-slice-known5
+past5 c = c .before .before .before .before
+
 -- the actors are written
-begun1 : (c : tie.After-slice-known2) → let s = start1 c in Begun (whole s) (s .args .buf .now) (buf1 c) (at1 c) (sec2 s ++ (sec3 s ++ sec4 s))
+begun1 : (c : tie.After-slice-known2) → let s = start1 c in Begun (whole s) (s .args .buf .now) (buf1 c) (at1 c) (sec2 s ++ (sec3 s ++ (sec4 s ++ sec5 s)))
 begun1 c =
     let s = start1 c in
-    first-section (sec1 s) (sec2 s ++ (sec3 s ++ sec4 s)) (fits s)
+    first-section (sec1 s) (sec2 s ++ (sec3 s ++ (sec4 s ++ sec5 s))) (fits s)
     (subst (λ (n : ℕ). Wrote (s .args .buf .now) (actorsBytes (s .args .actors) n) (buf1 c) (at1 c)) (c .before .before .before .before .actors .ensures) (c .before .before .actors-part .ensures))
 
 sub-actions-part : tie.Need-sub-actions-part
@@ -110,7 +122,7 @@ actions-part-requires c κs =
       s .pre .mail-room .comms-room,
       subst (λ (k : ℕ). k ≤ 8) n (s .pre .accepted .actors-most),
       subst (λ (k : ℕ). (a : ℕ) → a < k → countOf (s .args .table .now) a ≤ 32) n (s .pre .accepted .actions-most),
-      subst (λ (k : ℕ). length (actionsBytes (s .args .table .now) (s .args .comms .now) k) ≤ length (rest (at1 b) (buf1 b))) n (section-room (sec2 s) (sec3 s ++ sec4 s) (begun1 b)),
+      subst (λ (k : ℕ). length (actionsBytes (s .args .table .now) (s .args .comms .now) k) ≤ length (rest (at1 b) (buf1 b))) n (section-room (sec2 s) (sec3 s ++ (sec4 s ++ sec5 s)) (begun1 b)),
     )
 
 -- the actions too
@@ -120,15 +132,15 @@ wrote2 c =
     let w = c .before .before .actions-part in
     subst (λ (n : ℕ). Wrote (rest (at1 b) (buf1 b)) (actionsBytes (start1 b .args .table .now) (start1 b .args .comms .now) n) (w .last .1 .1 .1 .0) (w .result)) (b .before .before .before .before .actors .ensures) (w .ensures)
 
-begun2 : (c : tie.After-slice-known3) → let s = start1 (past2 c) in Begun (whole s) (s .args .buf .now) (buf2 c) (at2 c) (sec3 s ++ sec4 s)
+begun2 : (c : tie.After-slice-known3) → let s = start1 (past2 c) in Begun (whole s) (s .args .buf .now) (buf2 c) (at2 c) (sec3 s ++ (sec4 s ++ sec5 s))
 begun2 c =
     let s = start1 (past2 c) in
-    next-section (sec2 s) (sec3 s ++ sec4 s) (begun1 (past2 c)) (wrote2 c)
+    next-section (sec2 s) (sec3 s ++ (sec4 s ++ sec5 s)) (begun1 (past2 c)) (wrote2 c)
 
 add-boxes : tie.Need-add-boxes
 add-boxes c =
     let s = start1 (past2 c) in
-    omega (arith, section-sum (sec2 s) (sec3 s ++ sec4 s) (begun1 (past2 c)) (wrote2 c .0), s .good)
+    omega (arith, section-sum (sec2 s) (sec3 s ++ (sec4 s ++ sec5 s)) (begun1 (past2 c)) (wrote2 c .0), s .good)
 
 mailboxes-requires : tie.Need-mailboxes-requires
 mailboxes-requires c κs = search needs
@@ -149,7 +161,7 @@ boxes-part-requires c κs =
     let n = sym (c .before .mailboxes .ensures) in (
       s .pre .mail-room .log-room,
       subst (λ (k : ℕ). k ≤ 8) n (s .pre .accepted .mailboxes-most),
-      subst (λ (k : ℕ). length (boxesBytes (s .args .log .now) (s .args .ends .now) k) ≤ length (rest (at2 b) (buf2 b))) n (section-room (sec3 s) (sec4 s) (begun2 b)),
+      subst (λ (k : ℕ). length (boxesBytes (s .args .log .now) (s .args .ends .now) k) ≤ length (rest (at2 b) (buf2 b))) n (section-room (sec3 s) (sec4 s ++ sec5 s) (begun2 b)),
     )
 
 -- the mailboxes too
@@ -160,15 +172,15 @@ wrote3 c =
     let w = c .before .before .boxes-part in
     subst (λ (n : ℕ). Wrote (rest (at2 b) (buf2 b)) (boxesBytes (s .args .log .now) (s .args .ends .now) n) (w .last .1 .1 .1 .0) (w .result)) (c .before .before .before .before .mailboxes .ensures) (w .ensures)
 
-begun3 : (c : tie.After-slice-known4) → let s = start1 (past2 (past3 c)) in Begun (whole s) (s .args .buf .now) (buf3 c) (at3 c) (sec4 s)
+begun3 : (c : tie.After-slice-known4) → let s = start1 (past2 (past3 c)) in Begun (whole s) (s .args .buf .now) (buf3 c) (at3 c) (sec4 s ++ sec5 s)
 begun3 c =
     let s = start1 (past2 (past3 c)) in
-    next-section (sec3 s) (sec4 s) (begun2 (past3 c)) (wrote3 c)
+    next-section (sec3 s) (sec4 s ++ sec5 s) (begun2 (past3 c)) (wrote3 c)
 
 add-mutexes : tie.Need-add-mutexes
 add-mutexes c =
     let s = start1 (past2 (past3 c)) in
-    omega (arith, section-sum (sec3 s) (sec4 s) (begun2 (past3 c)) (wrote3 c .0), s .good)
+    omega (arith, section-sum (sec3 s) (sec4 s ++ sec5 s) (begun2 (past3 c)) (wrote3 c .0), s .good)
 
 mutexes-requires : tie.Need-mutexes-requires
 mutexes-requires c κs = search needs
@@ -189,10 +201,10 @@ mutexes-part-requires c κs =
     let n = sym (c .before .mutexes .ensures) in (
       s .pre .queue-room,
       subst (λ (k : ℕ). k ≤ 8) n (s .pre .accepted .mutexes-most),
-      subst (λ (k : ℕ). length (mutexesBytes (s .args .queues .now) k) ≤ length (rest (at3 b) (buf3 b))) n (left-room (begun3 b)),
+      subst (λ (k : ℕ). length (mutexesBytes (s .args .queues .now) k) ≤ length (rest (at3 b) (buf3 b))) n (section-room (sec4 s) (sec5 s) (begun3 b)),
     )
 
--- and the mutexes
+-- the mutexes too
 wrote4 : (c : tie.After-slice-known5) → let b = past4 c in let w = c .before .before .mutexes-part in Wrote (rest (at3 b) (buf3 b)) (sec4 (start1 (past2 (past3 b)))) (w .last .1 .1 .0) (w .result)
 wrote4 c =
     let b = past4 c in
@@ -200,20 +212,43 @@ wrote4 c =
     let w = c .before .before .mutexes-part in
     subst (λ (n : ℕ). Wrote (rest (at3 b) (buf3 b)) (mutexesBytes (s .args .queues .now) n) (w .last .1 .1 .0) (w .result)) (c .before .before .before .before .mutexes .ensures) (w .ensures)
 
+begun4 : (c : tie.After-slice-known5) → let s = start1 (past2 (past3 (past4 c))) in Begun (whole s) (s .args .buf .now) (buf4 c) (at4 c) (sec5 s)
+begun4 c =
+    let s = start1 (past2 (past3 (past4 c))) in
+    next-section (sec4 s) (sec5 s) (begun3 (past4 c)) (wrote4 c)
+
+add-entries : tie.Need-add-entries
+add-entries c =
+    let s = start1 (past2 (past3 (past4 c))) in
+    omega (arith, section-sum (sec4 s) (sec5 s) (begun3 (past4 c)) (wrote4 c .0), s .good)
+
+sub-part : tie.Need-sub-part
+sub-part c = left-at (begun4 c)
+
+part-part-start : tie.Need-part-part-start
+part-part-start c = left-at (begun4 c)
+
+part-part-end : tie.Need-part-part-end
+part-part-end c = search needs
+
+part-requires : tie.Need-part-requires
+part-requires c κs = let b = c .before in (start1 (past2 (past3 (past4 b))) .pre .journal-room, left-room (begun4 b))
+
+-- and the journal
 add-result : tie.Need-add-result
 add-result c =
-    let s = start1 (past2 (past3 (past4 c))) in
-    omega (arith, last-sum (begun3 (past4 c)) (wrote4 c .0), s .good)
+    let s = start1 (past2 (past3 (past4 (past5 c)))) in
+    omega (arith, last-sum (begun4 (past5 c)) (c .before .before .part .ensures .0), s .good)
 
 same-length : tie.Need-same-length
 same-length c = search needs
 
 returns : tie.Need-returns
 returns c =
-    let b = past4 c in
-    let s = start1 (past2 (past3 b)) in
-    let w = c .before .before .mutexes-part in
-    subst (λ (l : List ℕ). Wrote (s .args .buf .now) l (joined (at3 b) (buf3 b) (w .last .1 .1 .0)) (at3 b + w .result)) (same s) (last-wrote (begun3 b) (wrote4 c))
+    let b = past5 c in
+    let s = start1 (past2 (past3 (past4 b))) in
+    let w = c .before .before .part in
+    subst (λ (l : List ℕ). Wrote (s .args .buf .now) l (joined (at4 b) (buf4 b) (w .last .1 .0)) (at4 b + w .result)) (same s) (last-wrote (begun4 b) (w .ensures))
 
 pub write-spec : {M : Type 1} → statement M
 write-spec =
@@ -237,6 +272,11 @@ write-spec =
     part-mutexes-part-start
     part-mutexes-part-end
     mutexes-part-requires
+    add-entries
+    sub-part
+    part-part-start
+    part-part-end
+    part-requires
     add-result
     same-length
     returns)

@@ -41,7 +41,7 @@ make-requires : tie.Need-make-requires
 make-requires c κs =
     record {
       accepted = valid (c .before .before .before .before .before);
-      zeros = record { comms-fresh = refl; log-fresh = refl; ends-fresh = refl; queues-fresh = refl };
+      empty = record { comms-fresh = refl; log-long = length-replicate {A = ℕ} 4096 0; ends-fresh = refl; queues-fresh = refl; journal-long = length-replicate {A = ℕ} 257 0; journal-empty = refl };
       names-long = refl;
     }
 
