@@ -28,15 +28,7 @@ pub fn compared(
     let mut journal = [0usize; 257];
     let halt = trace_of(table, first, &mut log, &mut journal, names);
     match halt {
-        Halt::End => follow(
-            table,
-            first,
-            second,
-            &mut log,
-            &mut journal,
-            names,
-            others,
-        ),
+        Halt::End => follow(table, first, second, &mut log, &mut journal, names, others),
         Halt::At(stop) => SameAnswer::Refused(Refusal::First(stop)),
     }
 }

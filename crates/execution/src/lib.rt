@@ -43,9 +43,7 @@ pub fn execute(
             actors: [fresh; 8],
         };
     };
-    let played = play::play(
-        table, schedule, comms, log, ends, queues, journal, names,
-    );
+    let played = play::play(table, schedule, comms, log, ends, queues, journal, names);
     let actors = played.actors;
     let halt = played.halt;
     match halt {

@@ -53,11 +53,12 @@ fn entry(e: usize, buf: &mut [u8]) -> usize
     let name = e % 256;
     let value = e / 256;
     let at = writing::two((name / 32) as u8, (name % 32) as u8, buf);
-    at + writing::four(
-        (value % 256) as u8,
-        (value / 256 % 256) as u8,
-        (value / 65536 % 256) as u8,
-        (value / 16777216 % 256) as u8,
-        &mut buf[at..],
-    )
+    at
+        + writing::four(
+            (value % 256) as u8,
+            (value / 256 % 256) as u8,
+            (value / 65536 % 256) as u8,
+            (value / 16777216 % 256) as u8,
+            &mut buf[at..],
+        )
 }

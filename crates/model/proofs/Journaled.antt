@@ -86,15 +86,15 @@ pub every-journal : EveryJournal
 every-journal =
     record {
       journals = λ table p read taken.
-      let r = reached-end table p taken in
-      record {
-        in-order = in-order table p;
-        once = r .noted-once;
-        exactly = λ x. (
-          λ h. let k = r .noted-below x .0 h in let n = is-note (actionAt table x) .0 (ap isNote (k .0)) in (n .0, n .1, k .1),
-          λ h. r .noted-below x .1 (posts-notes _ (is-note (actionAt table x) .1 (h .0, h .1)), h .2),
-        );
-      };
+          let r = reached-end table p taken in
+          record {
+            in-order = in-order table p;
+            once = r .noted-once;
+            exactly = λ x. (
+              λ h. let k = r .noted-below x .0 h in let n = is-note (actionAt table x) .0 (ap isNote (k .0)) in (n .0, n .1, k .1),
+              λ h. r .noted-below x .1 (posts-notes _ (is-note (actionAt table x) .1 (h .0, h .1)), h .2),
+            );
+          };
       notes-alone = is-note;
       holds = λ cell cells. refl;
     }

@@ -66,7 +66,16 @@ pub fn make(
         (now (queues .exit)) (now (journal .exit)) (now (names .exit)) r ⌝ }
 {
     turns(
-        table, table, true, policy, comms, log, ends, queues, journal, names,
+        table,
+        table,
+        true,
+        policy,
+        comms,
+        log,
+        ends,
+        queues,
+        journal,
+        names,
     )
 }
 

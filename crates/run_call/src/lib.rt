@@ -35,7 +35,14 @@ pub fn run(table: &[u8], schedule: &[u8], report: &mut [u8]) -> LengthAnswer
         Course::End => {
             let actors = execution.actors;
             let n = report::write(
-                table, actors, &comms, &log, &ends, &queues, &journal, report,
+                table,
+                actors,
+                &comms,
+                &log,
+                &ends,
+                &queues,
+                &journal,
+                report,
             );
             LengthAnswer::Length(n as u32)
         }

@@ -2,6 +2,8 @@
 -- follows.
 -- Assumes nothing.
 use mathlib.Core.Path.{refl, _∙_, ap, sym}
+use Prim.Native.Nat.{ℕ}
+use lib.ListN.{length-replicate}
 use Rattle.table.specs.Read.{readOf}
 use Rattle.table.specs.Answer.{outcome}
 use Rattle.table.proofs.Readings.{refusing}
@@ -26,21 +28,26 @@ returns c =
 
 trace-of-requires : tie.Need-trace-of-requires
 trace-of-requires c κs =
-    (c .before .before .before .read .ensures .1 (c .before .enum-told .given .1), c .before .before .before .before .before .before .before .pre .0)
+    let s = c .before .before .before .before .before .before .before .before .before in (
+      c .before .before .before .before .before .read .ensures .1 (c .before .before .before .enum-told .given .1),
+      record { log-long = length-replicate {A = ℕ} 4096 0; journal-long = length-replicate {A = ℕ} 257 0 },
+      s .pre .0,
+    )
 
 enum-told-2 : tie.Need-enum-told-2
 enum-told-2 c = search needs
 
 follow-requires : tie.Need-follow-requires
 follow-requires c κs =
-    let t = c .before .before .before .before .trace-of .ensures in
-    let e = c .before .before .enum-told2 .given .1 in
+    let t = c .before .before .before .before .before .before .trace-of .ensures in
+    let e = c .before .before .before .before .enum-told2 .given .1 in
     record {
-      read = sym (c .before .before .before .before .before .before .before .before .read .ensures .0) ∙ ap outcome (c .before .before .before .before .before .before .enum-told .given .1);
-      promise = c .before .before .before .before .before .before .before .before .read .ensures .1 (c .before .before .before .before .before .before .enum-told .given .1);
+      read = sym (c .before .before .before .before .before .before .before .before .before .before .before .before .read .ensures .0) ∙ ap outcome (c .before .before .before .before .before .before .before .before .before .before .enum-told .given .1);
+      promise = c .before .before .before .before .before .before .before .before .before .before .before .before .read .ensures .1 (c .before .before .before .before .before .before .before .before .before .before .enum-told .given .1);
       first-fine = sym (t .halted firstNumbers) ∙ ap (haltOf firstNumbers) e;
       first-kept = t .kept e;
-      room = c .before .before .before .before .before .before .before .before .before .before .before .before .pre .1;
+      arrays = t .handed e;
+      room = c .before .before .before .before .before .before .before .before .before .before .before .before .before .before .before .before .pre .1;
     }
 
 enum-known-halt : tie.Need-enum-known-halt
@@ -51,7 +58,7 @@ returns-2 c = search needs
 
 returns-3 : tie.Need-returns-3
 returns-3 c =
-    first-refused refl (sym (c .before .before .before .before .before .before .before .read .ensures .0) ∙ ap outcome (c .before .before .before .before .before .enum-told .given .1))
+    first-refused refl (sym (c .before .before .before .before .before .before .before .before .before .read .ensures .0) ∙ ap outcome (c .before .before .before .before .before .before .before .enum-told .given .1))
     (sym (c .before .before .before .trace-of .ensures .halted firstNumbers) ∙ ap (haltOf firstNumbers) (c .before .halt .given .1) ∙ stop-refused firstNumbers (c .before .halt .given .0 .0))
 
 pub compared-spec : {M : Type 1} → statement M

@@ -17,7 +17,7 @@ enum-told c = search needs
 
 judge-requires : tie.Need-judge-requires
 judge-requires c κs =
-    let J = c .before .before .before .before .before .before .before .before .pre in
+    let J = c .before .before .before .before .before .before .before .before .before .before .pre in
     let t = c .before .before .before .trace-of .ensures in
     let e = c .before .enum-told .given .1 in
     record {
@@ -37,7 +37,7 @@ returns c = search needs
 
 returns-2 : tie.Need-returns-2
 returns-2 c =
-    let J = c .before .before .before .before .before .before .before .before .pre in
+    let J = c .before .before .before .before .before .before .before .before .before .before .pre in
     second-refused refl (J .read) (J .first-fine)
     (sym (c .before .before .before .trace-of .ensures .halted secondNumbers) ∙ ap (haltOf secondNumbers) (c .before .halt .given .1) ∙ stop-refused secondNumbers (c .before .halt .given .0 .0))
 

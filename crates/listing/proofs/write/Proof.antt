@@ -19,7 +19,7 @@ answer-requires c κs = answerable (c .before .before .before .before .before .e
 
 run-requires : tie.Need-run-requires
 run-requires c κs =
-    let s = c .before .before .before .before .before .before .before .before .before .before .before .before .before .before .before .before .before in
+    let s = c .before .before .before .before .before .before .before .before .before .before .before .before .before .before .before .before .before .before in
     let E = c .before .before .before .before .before .before .before .before .execute .ensures .ended (c .before .before .before .before .before .before .enum-told .given .1) .end in
     (held-long (s .args .table .now) (s .args .schedule .now) _ (E .names-right), E .entries-most, s .pre)
 
@@ -40,13 +40,13 @@ same-length c = search needs
 
 returns : tie.Need-returns
 returns c =
-    let s = c .before .before .before .before .before .before .before .before .before .before .before .before .before .before .before .before .before .before .before .before in
+    let s = c .before .before .before .before .before .before .before .before .before .before .before .before .before .before .before .before .before .before .before .before .before in
     let x = c .before .before .before .before .before .before .before .before .before .before .before .execute in
     let E = x .ensures .ended (c .before .before .before .before .before .before .before .before .before .enum-told .given .1) in
     let a = c .before .before .before .before .before .answer in
     let w = c .before .before .run in (
-      wrote-run (s .args .table .now) (s .args .schedule .now) (s .args .out .now) (w .last .1 .1 .1 .0) (w .result) (x .last .1 .1 .1 .1 .1 .1 .0) (a .result) (E .checked) (E .end .names-right)
-          (a .ensures (x .last .1 .1 .1 .0) (x .last .1 .1 .1 .1 .0) ∙ ap (readyAnswer (s .args .table .now)) (E .end .site))
+      wrote-run (s .args .table .now) (s .args .schedule .now) (s .args .out .now) (w .last .1 .1 .1 .0) (w .result) (x .last .1 .1 .1 .1 .1 .1 .1 .0) (a .result) (E .checked) (E .end .names-right)
+          (a .ensures (x .last .1 .1 .1 .0) (x .last .1 .1 .1 .1 .0) (x .last .1 .1 .1 .1 .1 .1 .0) ∙ ap (readyAnswer (s .args .table .now)) (E .end .site))
           (w .ensures .0),
       w .ensures .1,
     )
@@ -56,7 +56,7 @@ same-length-2 c = search needs
 
 returns-2 : tie.Need-returns-2
 returns-2 c =
-    let s = c .before .before .before .before .before .before .before .before .before .before .before .before .before .before .before .before .before .before in
+    let s = c .before .before .before .before .before .before .before .before .before .before .before .before .before .before .before .before .before .before .before in
     let told = c .before .before .before .before .before .before .before .course .given in
     let w = c .before .before .refused in
     wrote-refusal (s .args .table .now) (s .args .schedule .now) (s .args .out .now) (w .last .1 .1 .0) (w .result) (c .before .before .before .before .before .number .result) (c .before .before .before .before .position .result)

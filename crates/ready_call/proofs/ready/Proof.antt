@@ -19,14 +19,14 @@ enum-known-course c = search needs
 
 returns : tie.Need-returns
 returns c =
-    let s = c .before .before .before .before .before .before .before .before .before .before .before .before .before .before in
+    let s = c .before .before .before .before .before .before .before .before .before .before .before .before .before .before .before in
     let x = c .before .before .before .before .before .before .execute in
     let E = x .ensures .ended (c .before .before .before .before .enum-told .given .1) in
-    ready-given (s .args .table .now) (s .args .schedule .now) _ _ (E .end .site) (E .checked) (c .answer .ensures (x .last .1 .1 .1 .0) (x .last .1 .1 .1 .1 .0))
+    ready-given (s .args .table .now) (s .args .schedule .now) _ _ (E .end .site) (E .checked) (c .answer .ensures (x .last .1 .1 .1 .0) (x .last .1 .1 .1 .1 .0) (x .last .1 .1 .1 .1 .1 .1 .0))
 
 returns-2 : tie.Need-returns-2
 returns-2 c =
-    let s = c .before .before .before .before .before .before .before .before .before .before .before in
+    let s = c .before .before .before .before .before .before .before .before .before .before .before .before in
     let told = c .before .course .given in
     ready-refused (s .args .table .now) (s .args .schedule .now) _ _ (c .before .before .before .execute .ensures .refusal (told .0 .0) (told .1))
 

@@ -24,13 +24,13 @@ enum-told c = search needs
 
 write-requires : tie.Need-write-requires
 write-requires c κs =
-    let s = c .before .before .before .before .before .before .before .before .before .before .before .before .before .before .before .before .before .before in
-    let E = c .before .before .before .before .before .before .before .before .execute .ensures .ended (c .before .before .before .before .before .before .enum-told .given .1) in
-    reportable E (s .args .report .now) (c .before .before .before .before .before .before .before .before .before .before .before .before .before .before .if1 .left)
+    let s = c .before .before .before .before .before .before .before .before .before .before .before .before .before .before .before .before .before .before .before .before in
+    let E = c .before .before .before .before .before .before .before .before .before .execute .ensures .ended (c .before .before .before .before .before .before .before .enum-told .given .1) in
+    reportable E (s .args .report .now) (c .before .before .before .before .before .before .before .before .before .before .before .before .before .before .before .before .if1 .left)
 
-cast-t29 : tie.Need-cast-t29
-cast-t29 c =
-    let E = c .before .before .before .before .before .before .before .before .before .before .before .execute .ensures .ended (c .before .before .before .before .before .before .before .before .before .enum-told .given .1) in
+cast-t32 : tie.Need-cast-t32
+cast-t32 c =
+    let E = c .before .before .before .before .before .before .before .before .before .before .before .before .execute .ensures .ended (c .before .before .before .before .before .before .before .before .before .before .enum-told .given .1) in
     omega (arith, c .before .before .write .ensures .0, report-small E)
 
 enum-known-course : tie.Need-enum-known-course
@@ -42,17 +42,17 @@ same-length c = search needs
 returns-2 : tie.Need-returns-2
 unfolding runOf
 returns-2 c =
-    let s = c .before .before .before .before .before .before .before .before .before .before .before .before .before .before .before .before .before .before .before .before .before in
-    let E = c .before .before .before .before .before .before .before .before .before .before .before .execute .ensures .ended (c .before .before .before .before .before .before .before .before .before .enum-told .given .1) in
+    let s = c .before .before .before .before .before .before .before .before .before .before .before .before .before .before .before .before .before .before .before .before .before .before .before in
+    let E = c .before .before .before .before .before .before .before .before .before .before .before .before .execute .ensures .ended (c .before .before .before .before .before .before .before .before .before .before .enum-told .given .1) in
     let w = c .before .before .write .ensures in
-    rest-accepted 4450 10 (readyChecks (s .args .table .now) (s .args .schedule .now)) (report (s .args .table .now) (endState (s .args .table .now) (s .args .schedule .now))) (s .args .report .now) _ _ _ (c .before .before .before .before .before .before .before .before .before .before .before .before .before .before .before .before .before .if1 .left) (E .checked) (ap (report (s .args .table .now)) (E .end .site)) (w .0) (w .1)
+    rest-accepted 4450 10 (readyChecks (s .args .table .now) (s .args .schedule .now)) (report (s .args .table .now) (endState (s .args .table .now) (s .args .schedule .now))) (s .args .report .now) _ _ _ (c .before .before .before .before .before .before .before .before .before .before .before .before .before .before .before .before .before .before .before .if1 .left) (E .checked) (ap (report (s .args .table .now)) (E .end .site)) (w .0) (w .1)
 
 returns-3 : tie.Need-returns-3
 unfolding runOf
 returns-3 c =
-    let s = c .before .before .before .before .before .before .before .before .before .before .before .before .before in
+    let s = c .before .before .before .before .before .before .before .before .before .before .before .before .before .before in
     let told = c .before .course .given in
-    rest-refused 4450 10 (readyChecks (s .args .table .now) (s .args .schedule .now)) (report (s .args .table .now) (endState (s .args .table .now) (s .args .schedule .now))) (s .args .report .now) (c .before .before .before .before .before .before .before .before .before .if1 .left) (c .before .before .before .execute .ensures .refusal (told .0 .0) (told .1))
+    rest-refused 4450 10 (readyChecks (s .args .table .now) (s .args .schedule .now)) (report (s .args .table .now) (endState (s .args .table .now) (s .args .schedule .now))) (s .args .report .now) (c .before .before .before .before .before .before .before .before .before .before .if1 .left) (c .before .before .before .execute .ensures .refusal (told .0 .0) (told .1))
 
 pub run-spec : {M : Type 1} → statement M
 run-spec =
@@ -62,7 +62,7 @@ run-spec =
     execute-requires
     enum-told
     write-requires
-    cast-t29
+    cast-t32
     enum-known-course
     same-length
     returns-2
