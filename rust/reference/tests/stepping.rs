@@ -210,10 +210,10 @@ fn the_first_refused_entry_counts() {
 
 #[test]
 fn the_report_buffer_comes_first() {
-    let mut short = [3; 2_911];
+    let mut short = [3; 4_449];
     assert_eq!(refused(run(&[], &[9], &mut short)), (10, 0));
     assert_eq!(refused(run(&A, &[], &mut short)), (10, 0));
-    assert_eq!(short, [3; 2_911]);
+    assert_eq!(short, [3; 4_449]);
     let mut enough = [3; 2_913];
     assert_eq!(refused(run(&[], &[9], &mut enough)), (1, 0));
     assert_eq!(enough, [3; 2_913]);
