@@ -7,10 +7,14 @@ use crate::inputs::rng::Rng;
 use crate::inputs::sample::Shape;
 use order_engine::StepName;
 use reference::{SCHEDULE_MOST, check, draw};
-use tables::TABLE_A;
+use tables::{Kind, TABLE_A};
 
 /// How many different tables a measurement goes through, where it is more than one.
 const TABLES: usize = 16;
+
+/// The last of the kinds that are measured: those of document 01, so that figures of all landings are of the
+/// same tables.
+const LAST_KIND: Kind = Kind::MutexWait;
 
 /// What a call is given: a table, two same schedules that run it to its end, two of its steps, and a seed.
 #[derive(Clone, Debug)]
@@ -86,7 +90,8 @@ pub fn loads() -> Vec<Load> {
 
 /// Tables of a shape, made along schedules that run them to their end.
 fn made(rng: &mut Rng, shape: impl Fn() -> Shape) -> Vec<Work> {
-    let mixes = [Mix::EVEN, Mix::CONTENDED].into_iter().cycle();
+    let mixes = [Mix::EVEN, Mix::CONTENDED].map(|mix| mix.up_to(LAST_KIND));
+    let mixes = mixes.into_iter().cycle();
     let works = mixes.take(TABLES).map(|mix| {
         let (sample, first) = grown(rng, shape(), &mix);
         let counts = &sample.shape.counts;

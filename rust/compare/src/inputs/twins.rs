@@ -7,7 +7,8 @@ use crate::inputs::interleave::{exchanged, interleaved, twisted};
 use crate::inputs::rng::Rng;
 use crate::inputs::steps::{noise, suited};
 use crate::inputs::walk::{Walk, accepted};
-use reference::{Table, check};
+use reference::trace::Trace;
+use reference::{Schedule, Table, check};
 
 /// A table and two schedules.
 pub struct Twins {
@@ -32,7 +33,8 @@ impl Twins {
             1..6 => Self::refused(rng),
             6..15 => Self::aimed(rng, same),
             15..19 => Self::aimed(rng, interleaved),
-            19..26 => Self::aimed(rng, twisted),
+            19..25 => Self::aimed(rng, twisted),
+            25 => Self::aimed(rng, neighbours),
             26..28 => Self::aimed(rng, other_names),
             _ => Self::aimed(rng, other_length).either_way(rng),
         }
@@ -107,6 +109,16 @@ type Second = fn(&mut Rng, &Table, &[u8]) -> Option<Vec<u8>>;
 fn same(rng: &mut Rng, table: &Table, first: &[u8]) -> Option<Vec<u8>> {
     let second = exchanged(rng, table, first);
     (second != first || rng.once_in(12)).then_some(second)
+}
+
+/// Two neighbours of different actors in other order, and nothing else.
+fn neighbours(rng: &mut Rng, table: &Table, first: &[u8]) -> Option<Vec<u8>> {
+    let k = rng.below(first.len().max(2) - 1);
+    let mut schedule = first.to_vec();
+    schedule.get(k..k + 2)?;
+    schedule.swap(k, k + 1);
+    let accepted = Trace::of(table, Schedule::First, &schedule).is_ok();
+    (accepted && schedule != first).then_some(schedule)
 }
 
 /// As long as the first if possible, with other names mostly.
