@@ -4,6 +4,7 @@ use crate::inputs::contended::{Size, table};
 use crate::inputs::entries::{Fault, fault, spoilt};
 use crate::inputs::families::FAMILIES;
 use crate::inputs::interleave::{exchanged, interleaved, twisted};
+use crate::inputs::notes::{every_action, one_actor};
 use crate::inputs::rng::Rng;
 use crate::inputs::steps::{noise, suited};
 use crate::inputs::walk::{Walk, accepted};
@@ -28,8 +29,9 @@ impl Twins {
 
     /// Of any sort: same, different, or refused.
     pub fn any(rng: &mut Rng) -> Self {
-        match rng.below(32) {
+        match rng.below(33) {
             0 => Self::damaged(rng),
+            32 => Self::noted(rng),
             1..6 => Self::refused(rng),
             6..15 => Self::aimed(rng, same),
             15..19 => Self::aimed(rng, interleaved),
@@ -58,6 +60,20 @@ impl Twins {
                     second,
                 };
             }
+        }
+    }
+
+    /// A table whose journal grows, and two schedules of all its steps: same, or hardly different.
+    fn noted(rng: &mut Rng) -> Self {
+        let make = rng.pick(&[every_action, one_actor]);
+        let (bytes, first) = make(rng);
+        let checked = check(&bytes).expect("the table is right");
+        let second = rng.pick(&[neighbours as Second, twisted, same]);
+        let second = second(rng, &checked, &first).unwrap_or_else(|| first.clone());
+        Self {
+            table: bytes,
+            first,
+            second,
         }
     }
 
