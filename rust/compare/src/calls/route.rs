@@ -49,7 +49,7 @@ pub const CALL: Call = Call {
         let refused = |reason| tally.refused(reason);
         let pairs =
             tally.accepted() + refused(Reason::RouteRoom) + refused(Reason::Different);
-        let demands = exchanges::same_demands(exchanges::different_demands(demands, 50), 50);
+        let demands = exchanges::demands(demands, 50);
         totals::demands(demands, &[Reason::Over, Reason::SecondOver], 100)
             .least("pairs of schedules", pairs, 100_000)
             .accepted(25_000)

@@ -45,7 +45,7 @@ pub const CALL: Call = Call {
             .refused(&Reason::OF_TABLE, 100)
             .refused(&Reason::OF_FIRST, 1_000)
             .refused(&Reason::OF_SECOND, 1_000);
-        let demands = exchanges::different_demands(exchanges::same_demands(demands, 50), 50);
+        let demands = exchanges::demands(demands, 50);
         cut::demands(lengths::demands(demands, 10))
     },
 };

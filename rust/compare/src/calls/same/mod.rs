@@ -42,7 +42,7 @@ pub const CALL: Call = Call {
         let quarter = tally.accepted() / 4;
         let tenth = tally.noted(DIFFERENT) / 10;
         let demands = journal::demands(demands, 20);
-        let demands = exchanges::different_demands(exchanges::same_demands(demands, 50), 50);
+        let demands = exchanges::demands(demands, 50);
         totals::demands(demands, &[Reason::Over, Reason::SecondOver], 100)
             .accepted(100_000)
             .refused(&Reason::OF_TABLE, 100)
