@@ -79,8 +79,12 @@ pub fn table(rng: &mut Rng, size: Size) -> (Sample, Option<Vec<u8>>) {
         return (totals::table(rng, shape), None);
     }
     let mut mix = rng.pick(&Mix::ALL);
-    // Without Notes more can be exchanged.
-    if rng.once_in(3) {
+    // Without Notes more can be exchanged: the longest routes are those of large tables.
+    let times = match size {
+        Size::Tiny | Size::Small => 3,
+        Size::Large | Size::Maximal => 2,
+    };
+    if rng.once_in(times) {
         mix = mix.without(Kind::Note);
     }
     if rng.once_in(2) {
