@@ -33,7 +33,7 @@ enum OrderRefusal {
     ORDER_REFUSED_TABLE_END = 5,   /* it does not end with the last actor's last action */
 
     /* Each action of the table in turn, in this order; position its offset. */
-    ORDER_REFUSED_KIND = 6,   /* the kind is over 10 */
+    ORDER_REFUSED_KIND = 6,   /* the kind is over 11 */
     ORDER_REFUSED_RANGE = 7,  /* a cell, mailbox, mutex, list length or listed mutex is out of range */
     ORDER_REFUSED_LISTED = 8, /* a listed action is not a lower Send or Receive of its actor */
     ORDER_REFUSED_UNUSED = 9, /* a byte without a use is not 0 */
@@ -85,7 +85,7 @@ typedef struct {
 OrderCheck order_check(const uint8_t *table, size_t length);
 
 /* The bytes that order_run wants lent. No report is longer. */
-#define ORDER_REPORT_ROOM 2912
+#define ORDER_REPORT_ROOM 4450
 
 /* What a run answers: the length of the report that was written. */
 typedef struct {
@@ -95,8 +95,9 @@ typedef struct {
 } OrderRun;
 
 /* Runs a schedule, one byte for each entry, from a fresh site and writes the state report of its end into
- * the first bytes of `report`; the bytes after it stay as they were. Refusals, in this order: 10; 1 to 9;
- * 11 to 13 and 21.
+ * the first bytes of `report`: the actors, their actions, the mailboxes, the mutexes and, last, the journal, the number
+ * of its entries in 16 bits and six bytes for each. The bytes after it stay as they were. Refusals, in this order: 10;
+ * 1 to 9; 11 to 13 and 21.
  */
 OrderRun order_run(const uint8_t *table, size_t table_length, const uint8_t *schedule, size_t schedule_length,
                    uint8_t *report, size_t report_length);
@@ -172,8 +173,8 @@ typedef struct {
     uint32_t verdict;
 } OrderPair;
 
-/* Whether two steps, each named by its actor and action, are dependent, judged from the table alone.
- * Refusals, in this order: 1 to 9; 17.
+/* Whether two steps, each named by its actor and action, are dependent, judged from the table alone. Two steps of one
+ * actor are; those of two actors in the five cases that docs/FORMAT.md has. Refusals, in this order: 1 to 9; 17.
  */
 OrderPair order_pair(const uint8_t *table, size_t table_length, uint8_t first_actor, uint8_t first_action,
                      uint8_t second_actor, uint8_t second_action);

@@ -33,11 +33,11 @@ static void runs(void)
     /* A fresh site. */
     answer = order_run(lent.table, lent.table_length, NULL, 0, lent.bytes, lent.bytes_length);
     expect_number(answer.refusal, ORDER_ACCEPTED, "order_run without a schedule", "the refusal");
-    expect_number(answer.length, 100, "order_run without a schedule", "the report's length");
-    for (size_t i = 0; i < 100; i++) {
+    expect_number(answer.length, 102, "order_run without a schedule", "the report's length");
+    for (size_t i = 0; i < 102; i++) {
         expect_number(lent.bytes[i], 0, "order_run without a schedule", "a byte of the report");
     }
-    expect_kept(&lent, 100, 0, "order_run without a schedule");
+    expect_kept(&lent, 102, 0, "order_run without a schedule");
 }
 
 static void readies(void)

@@ -13,9 +13,10 @@ static void runs(void)
     static const uint8_t cells[8] = {149, 0, 0, 0, 1, 0, 0, 0};
     expect_number(answer.refusal, ORDER_ACCEPTED, "order_run", "the refusal");
     expect_number(answer.position, 0, "order_run", "the position");
-    expect_number(answer.length, 100, "order_run", "the report's length");
+    expect_number(answer.length, 102, "order_run", "the report's length");
     expect(memcmp(lent.bytes + 42, cells, 8) == 0, "order_run", "actor 1's cells 2 and 3 are not 149 and 1");
-    expect_kept(&lent, 100, 0, "order_run");
+    expect(lent.bytes[100] == 0 && lent.bytes[101] == 0, "order_run", "the journal is not empty");
+    expect_kept(&lent, 102, 0, "order_run");
 
     lent = with(whole, 4, whole, 0);
     lent.bytes_length = ORDER_REPORT_ROOM - 1;

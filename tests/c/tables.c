@@ -46,6 +46,7 @@ void tables(void)
     /* (i) */
     table_refused(table_a, 43, ORDER_REFUSED_TABLE_END, 0);
     changed_refused(12, 255, ORDER_REFUSED_KIND, 12);
+    changed_refused(12, 12, ORDER_REFUSED_KIND, 12);
     table_refused(longer, sizeof longer, ORDER_REFUSED_TABLE_END, 0);
     changed_refused(13, 8, ORDER_REFUSED_RANGE, 12);
     /* (j) */

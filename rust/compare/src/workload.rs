@@ -1,4 +1,4 @@
-//! What the benchmark measures: each call on small, typical and maximal tables.
+//! What the benchmark measures: each call on small, typical and maximal tables, and on tables with Notes.
 
 use crate::inputs::contended::grown;
 use crate::inputs::interleave::by_actor;
@@ -7,10 +7,14 @@ use crate::inputs::rng::Rng;
 use crate::inputs::sample::Shape;
 use order_engine::StepName;
 use reference::{SCHEDULE_MOST, check, draw};
-use tables::TABLE_A;
+use tables::{Kind, TABLE_A};
 
 /// How many different tables a measurement goes through, where it is more than one.
 const TABLES: usize = 16;
+
+/// The last kind of document 01. The first loads have no other, so that the figures of all landings are of
+/// the same tables.
+const LAST_PLAIN: Kind = Kind::MutexWait;
 
 /// What a call is given: a table, two same schedules that run it to its end, two of its steps, and a seed.
 #[derive(Clone, Debug)]
@@ -56,7 +60,8 @@ pub fn loads() -> Vec<Load> {
         mutexes: 2,
         counts: vec![8; 4],
     };
-    let maximal = made(&mut rng, Shape::maximal);
+    let plain = [Mix::EVEN, Mix::CONTENDED].map(|mix| mix.up_to(LAST_PLAIN));
+    let maximal = made(&mut rng, Shape::maximal, plain);
     vec![
         Load {
             name: "small",
@@ -71,7 +76,7 @@ pub fn loads() -> Vec<Load> {
         },
         Load {
             name: "typical",
-            works: made(&mut rng, typical),
+            works: made(&mut rng, typical, plain),
         },
         Load {
             name: "maximal",
@@ -81,12 +86,16 @@ pub fn loads() -> Vec<Load> {
             name: "one maximal",
             works: maximal[..1].to_vec(),
         },
+        Load {
+            name: "with Notes",
+            works: made(&mut rng, typical, [Mix::NOTES, Mix::CONTENDED]),
+        },
     ]
 }
 
-/// Tables of a shape, made along schedules that run them to their end.
-fn made(rng: &mut Rng, shape: impl Fn() -> Shape) -> Vec<Work> {
-    let mixes = [Mix::EVEN, Mix::CONTENDED].into_iter().cycle();
+/// Tables of a shape, made along schedules that run them to their end, with kinds as each mix in turn has them.
+fn made(rng: &mut Rng, shape: impl Fn() -> Shape, mixes: [Mix; 2]) -> Vec<Work> {
+    let mixes = mixes.into_iter().cycle();
     let works = mixes.take(TABLES).map(|mix| {
         let (sample, first) = grown(rng, shape(), &mix);
         let counts = &sample.shape.counts;

@@ -23,8 +23,10 @@ fn a_view_shows_the_state() {
         actors(&report, &table, &site);
         communications(&report, &table, &site, &mut met);
         queues(&report, &table, &site, &mut met);
+        journal(&report, &site, &mut met);
     }
     assert!(met.pending > 1_000 && met.done > 1_000 && met.queued > 1_000 && met.owned > 1_000);
+    assert!(met.noted > 1_000);
 }
 
 /// How many were seen that are not empty.
@@ -34,6 +36,7 @@ struct Met {
     done: usize,
     queued: usize,
     owned: usize,
+    noted: usize,
 }
 
 fn step(name: Name) -> StepName {
@@ -93,4 +96,12 @@ fn queues(report: &Report, table: &Table, site: &Site, met: &mut Met) {
         assert_eq!(mutex.owner(), queue.first().copied());
         met.owned += usize::from(mutex.owner().is_some());
     }
+}
+
+fn journal(report: &Report, site: &Site, met: &mut Met) {
+    let entries = report.journal().entries();
+    met.noted += entries.len();
+    let entries = entries.map(|entry| (entry.step, entry.value));
+    let written = site.journal().iter();
+    assert!(entries.eq(written.map(|entry| (step(entry.step), entry.value))));
 }

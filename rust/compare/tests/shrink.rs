@@ -125,6 +125,6 @@ fn a_refused_table() {
     let least = shrunk(&check::CALL, kind);
     assert_eq!(
         least.read[0],
-        [1, 1, 0, 0, 8, 0, 1, 0, 11, 0, 0, 0, 0, 0, 0, 0]
+        [1, 1, 0, 0, 8, 0, 1, 0, 12, 0, 0, 0, 0, 0, 0, 0]
     );
 }

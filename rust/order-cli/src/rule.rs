@@ -1,4 +1,4 @@
-//! Why two steps are dependent: the specification's four cases, in words. Whether they are is the
+//! Why two steps are dependent: the specification's five cases, in words. Whether they are is the
 //! engine's to say.
 
 use crate::words::{listed, step};
@@ -21,6 +21,8 @@ enum Part {
     Unlocks(u8),
     /// Looks at mutexes.
     Asks(Vec<u8>),
+    /// Writes into the journal.
+    Notes,
 }
 
 /// Which case makes two steps dependent, if one does.
@@ -35,7 +37,7 @@ pub fn rule(layout: &Layout, one: StepName, other: StepName) -> Option<String> {
     competes(layout, one, other).or_else(watches)
 }
 
-/// Cases 1 and 3: both do the same to one thing.
+/// Cases 1, 3 and 5: both do the same to one thing.
 fn competes(layout: &Layout, one: StepName, other: StepName) -> Option<String> {
     let does = part(layout, one);
     if does != part(layout, other) {
@@ -46,6 +48,7 @@ fn competes(layout: &Layout, one: StepName, other: StepName) -> Option<String> {
             Some(format!("case 1: both {} on mailbox {mailbox}", kind.name()))
         }
         Part::Locks(mutex) => Some(format!("case 3: both Lock mutex {mutex}")),
+        Part::Notes => Some("case 5: both Note".to_owned()),
         Part::Nothing | Part::Looks(_) | Part::Unlocks(_) | Part::Asks(_) => None,
     }
 }
@@ -84,6 +87,7 @@ fn part(layout: &Layout, name: StepName) -> Part {
         Some(Kind::Lock) => Part::Locks(p),
         Some(Kind::Unlock) => Part::Unlocks(p),
         Some(Kind::MutexTest | Kind::MutexWait) => Part::Asks(list(action).to_vec()),
-        Some(Kind::Set | Kind::Add | Kind::Lesser) | None => Part::Nothing,
+        Some(Kind::Note) => Part::Notes,
+        _ => Part::Nothing,
     }
 }

@@ -4,7 +4,7 @@ use crate::posts::{met, waiting};
 use crate::table::Table;
 use crate::words::{count, joined, spaced, step};
 use crate::{over, waits};
-use order_engine::report::{Actor, Mailbox, Mutex};
+use order_engine::report::{Actor, Journal, Mailbox, Mutex};
 use order_engine::{Ending, Ready, Refusal, Report, StepName, ready, run};
 use tables::{Kind, action};
 
@@ -72,8 +72,8 @@ impl<'a> State<'a> {
         }
     }
 
-    /// All of it: how the whole stands, then actors, pairs that have met, mailboxes and mutexes. States
-    /// that differ have other words.
+    /// All of it: how the whole stands, then actors, pairs that have met, mailboxes, mutexes and, where the
+    /// table has Notes, the journal. States that differ have other words.
     pub fn words(&self) -> String {
         let report = &self.report;
         let mut text = format!("{}\n", self.ending());
@@ -81,6 +81,9 @@ impl<'a> State<'a> {
         text += &met(self.table, report);
         text.extend(report.mailboxes().map(|mailbox| self.mailbox(&mailbox)));
         text.extend(report.mutexes().map(|mutex| queue(&mutex)));
+        if self.table.has(Kind::Note) {
+            text += &journal(&report.journal());
+        }
         text
     }
 
@@ -157,13 +160,7 @@ impl<'a> State<'a> {
     /// What waits in the mailbox, the oldest first.
     fn mailbox(&self, mailbox: &Mailbox) -> String {
         let steps = mailbox.steps();
-        let steps: Vec<String> = steps
-            .map(|name| waiting(self.table, &self.report, name))
-            .collect();
-        let queue = match steps.is_empty() {
-            true => "empty".to_owned(),
-            false => steps.join(", then "),
-        };
+        let queue = in_turn(steps.map(|name| waiting(self.table, &self.report, name)));
         format!("mailbox {}: {queue}\n", mailbox.number())
     }
 
@@ -185,4 +182,22 @@ fn queue(mutex: &Mutex) -> String {
         }
     };
     format!("mutex {}: {queue}\n", mutex.number())
+}
+
+/// What Notes have written, the oldest first.
+fn journal(journal: &Journal) -> String {
+    let entries = journal.entries();
+    let note = Kind::Note.name();
+    let entries =
+        in_turn(entries.map(|entry| format!("{} {note} with {}", entry.step, entry.value)));
+    format!("journal: {entries}\n")
+}
+
+/// The items in their order, or that there are none.
+fn in_turn(items: impl Iterator<Item = String>) -> String {
+    let items: Vec<String> = items.collect();
+    match items.is_empty() {
+        true => "empty".to_owned(),
+        false => items.join(", then "),
+    }
 }

@@ -30,6 +30,12 @@ impl Table {
         action::kind(action)
     }
 
+    /// Whether some action is of this kind.
+    pub fn has(&self, kind: Kind) -> bool {
+        let mut actions = self.layout.scripts.iter().flatten();
+        actions.any(|one| action::kind(one) == Some(kind))
+    }
+
     /// What the table has, in a line and one for each actor.
     pub fn summary(&self) -> String {
         let layout = &self.layout;

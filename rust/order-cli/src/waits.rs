@@ -25,18 +25,7 @@ pub fn reason(table: &Table, report: &Report, name: StepName) -> String {
                 .map(|&mutex| unowned(report, name.actor, mutex))
                 .collect()
         }
-        Some(
-            Kind::Set
-            | Kind::Add
-            | Kind::Lesser
-            | Kind::Send
-            | Kind::Receive
-            | Kind::TestAny
-            | Kind::Lock
-            | Kind::Unlock
-            | Kind::MutexTest,
-        )
-        | None => Vec::new(),
+        _ => Vec::new(),
     };
     let mut said = HashSet::new();
     reasons.retain(|reason| said.insert(reason.clone()));

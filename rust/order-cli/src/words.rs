@@ -31,6 +31,7 @@ pub fn does(actor: u8, action: &Action) -> String {
         Kind::Lock | Kind::Unlock => format!("{name} mutex {p}"),
         Kind::MutexTest => format!("{name} of {}", mutexes(list(action))),
         Kind::MutexWait => format!("{name} for {}", mutexes(list(action))),
+        Kind::Note => format!("{name} cell {p}"),
     }
 }
 
@@ -73,7 +74,7 @@ mod tests {
     use super::does;
     use std::collections::HashSet;
     use tables::action::{add, lesser, lock, mutex_test, mutex_wait, receive, send, set};
-    use tables::action::{lone, test_any, unlock, wait_any};
+    use tables::action::{lone, note, test_any, unlock, wait_any};
     use tables::{Kind, Layout, TABLE_A};
 
     #[test]
@@ -90,6 +91,7 @@ mod tests {
             (unlock(2), "Unlock mutex 2"),
             (mutex_test(7, &[0, 1]), "MutexTest of mutexes 0, 1"),
             (mutex_wait(7, &[3]), "MutexWait for mutex 3"),
+            (note(6), "Note cell 6"),
         ];
         let met: HashSet<u8> = said.iter().map(|(action, _)| action[0]).collect();
         assert_eq!(met.len(), Kind::COUNT);

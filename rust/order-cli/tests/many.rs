@@ -106,7 +106,7 @@ fn a_rule_exactly_where_the_engine_says_dependent() {
         }
     }
     let wanted = [
-        "", "a step", "two st", "case 1", "case 2", "case 3", "case 4",
+        "", "a step", "two st", "case 1", "case 2", "case 3", "case 4", "case 5",
     ];
     assert_eq!(met, HashSet::from(wanted.map(str::to_owned)));
 }

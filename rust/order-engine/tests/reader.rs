@@ -29,6 +29,7 @@ fn the_empty_table() {
 fn case_i() {
     assert_eq!(numbers(check(&A[..43]).unwrap_err()), (5, 0));
     assert_eq!(numbers(refusal(12, 255)), (6, 12));
+    assert_eq!(numbers(refusal(12, 12)), (6, 12));
 }
 
 #[test]

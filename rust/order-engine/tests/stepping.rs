@@ -23,11 +23,11 @@ fn refused(schedule: &[u8]) -> (u32, u32) {
 fn case_a() {
     let mut report = [7; REPORT_ROOM + 1];
     let view = run(&A, &[0, 1, 0, 1], &mut report).unwrap();
-    assert_eq!(view.bytes().len(), 100);
+    assert_eq!(view.bytes().len(), 102);
     let actor = view.actors().nth(1).unwrap();
     assert_eq!(actor.position, 2);
     assert_eq!(actor.cells, [0, 0, 149, 1, 0, 0, 0, 0]);
-    assert!(report[100..].iter().all(|&byte| byte == 7));
+    assert!(report[102..].iter().all(|&byte| byte == 7));
 }
 
 #[test]

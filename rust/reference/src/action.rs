@@ -52,6 +52,8 @@ pub enum Action {
     MutexTest { result: u8, mutexes: List },
     /// The same, once one is owned.
     MutexWait { result: u8, mutexes: List },
+    /// Adds its name and what `cell` holds to the journal.
+    Note { cell: u8 },
 }
 
 impl Action {
@@ -96,6 +98,7 @@ impl Action {
                 result: p,
                 mutexes: list,
             },
+            Kind::Note => Self::Note { cell: p },
         }
     }
 }

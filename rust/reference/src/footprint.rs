@@ -1,5 +1,5 @@
-//! What a step touches, as sets of marks: two steps are dependent where the one's marks meet the
-//! other's. The same relation as [`crate::pair::dependent`], made for asking it often.
+//! What a step touches, as sets of marks: steps of two actors are dependent where the one's marks meet
+//! the other's. The same relation as [`crate::pair::dependent`], made for asking it often.
 
 use crate::action::{Action, List};
 use crate::name::Name;
@@ -9,14 +9,17 @@ use tables::Kind;
 /// The marks of a step, and the marks that it is dependent on.
 #[derive(Clone, Copy, PartialEq, Eq, Debug, Default)]
 pub struct Footprint {
-    /// What the step is.
+    /// What the step is, and its actor's number.
     pub marks: u64,
-    /// What it must not change places with.
+    /// What it must not change places with, of another actor.
     pub meets: u64,
 }
 
-/// The first of eight marks each: of an actor, mailbox or mutex.
-const ACTOR: u32 = 0;
+/// Where the actor's number stands in the marks. Nothing meets these.
+const ACTOR: u64 = 0b111;
+/// The mark of a Note.
+const NOTES: u64 = 1 << 7;
+/// The first of eight marks each: of a mailbox or mutex.
 const SENDS: u32 = 8;
 const RECEIVES: u32 = 16;
 const LOCKS: u32 = 24;
@@ -36,9 +39,7 @@ fn mark(first: u32, number: u8) -> u64 {
 impl Footprint {
     /// The footprint of `name`, whose action is `action`.
     pub fn of(table: &Table, name: Name, action: &Action) -> Self {
-        let own = mark(ACTOR, name.actor() as u8);
         let (marks, meets) = match action {
-            Action::Set { .. } | Action::Add { .. } | Action::Lesser { .. } => (0, 0),
             Action::Send { mailbox, .. } => {
                 let send = mark(SENDS, *mailbox);
                 (send, send | mark(AWAITS_SEND, *mailbox))
@@ -57,15 +58,24 @@ impl Footprint {
                 let set = list.fold(0, |set, &mutex| set | mark(0, mutex));
                 (set << AWAITS_UNLOCK, set << UNLOCKS)
             }
+            Action::Note { .. } => (NOTES, NOTES),
+            // In no case of dependence.
+            _ => (0, 0),
         };
         Self {
-            marks: own | marks,
-            meets: own | meets,
+            marks: name.actor() as u64 | marks,
+            meets,
         }
     }
 
     /// Whether the two steps are dependent.
     pub fn dependent(&self, other: &Self) -> bool {
+        let of_one_actor = (self.marks ^ other.marks) & ACTOR == 0;
+        of_one_actor || self.meets(other)
+    }
+
+    /// The same of steps of two actors.
+    pub fn meets(&self, other: &Self) -> bool {
         self.marks & other.meets != 0
     }
 }

@@ -8,13 +8,13 @@
 //! - [`reader`]: the table reader, refusals 1 to 9;
 //! - [`table`]: a table that the reader accepted;
 //! - [`name`]: a step's name;
-//! - [`actor`], [`communication`], [`mailbox`], [`mutex`]: the parts of a site's state;
+//! - [`actor`], [`communication`], [`mailbox`], [`mutex`], [`journal`]: the parts of a site's state;
 //! - [`next`], [`site`]: what an actor's next step is, and the state and its steps;
 //! - [`mod@follow`]: stepping along a schedule, refusals 11 to 16, 21 and 22;
 //! - [`status`], [`mod@ready`]: how an actor stands, and the ready answer;
 //! - [`report`], [`mod@run`], [`mod@page`]: the state report, the run and the page;
 //! - [`mod@make`], [`mod@draw`]: schedules that are made, refusal 23, and the one that a seed determines;
-//! - [`mod@pair`]: the pair verdict, by its four cases;
+//! - [`mod@pair`]: the pair verdict, by its five cases;
 //! - [`trace`], [`mod@same`], [`mod@route`]: an accepted schedule's steps, the same verdict by normal
 //!   forms, and the exchange route;
 //! - [`mod@prefix`], [`mod@remainder`]: the same verdict on what two recordings both have, and what is left
@@ -24,7 +24,7 @@
 //!   made for speed, to be measured.
 //!
 //! The stepping engine knows a table by [`Table`] alone, which only [`check`] makes. Stepping needs no
-//! heap; a step costs the same however long the schedule and the queues are.
+//! heap but for a journal's entries; a step costs the same however long the schedule and the queues are.
 //!
 //! # What it shares with the proved engine
 //!
@@ -38,7 +38,7 @@
 //! the reader's forms (masks over an action's bytes), an Add's sum (made and found too large, not
 //! compared beforehand), the page (Rust's own formatting), a draw (numbers of 64 bits, so that nothing runs
 //! over before the remainder is taken, and a list of the ready actors), dependence (the
-//! four cases as the document has them, without a table of codes), the same verdict (normal forms; on
+//! five cases as the documents have them, without a table of codes), the same verdict (normal forms; on
 //! short schedules also a search through all chains), and where the longer of two recordings is cut
 //! (entry by entry, without looking at a length). [`quick`], which is measured and not compared, works as
 //! the proved engine does.
@@ -51,6 +51,7 @@ pub mod communication;
 pub mod draw;
 pub mod follow;
 pub mod footprint;
+pub mod journal;
 pub mod mailbox;
 pub mod make;
 pub mod mutex;

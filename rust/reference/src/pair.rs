@@ -1,4 +1,5 @@
-//! The pair verdict: whether two steps are dependent, by document 01's four cases.
+//! The pair verdict: whether two steps are dependent, by document 01's four cases and document 02's
+//! fifth.
 
 use crate::action::Action;
 use crate::name::Name;
@@ -16,7 +17,7 @@ pub fn dependent(table: &Table, one: Name, other: Name) -> bool {
     compete(&a, &b) || watches(table, one.actor(), &a, &b) || watches(table, other.actor(), &b, &a)
 }
 
-/// Cases 1 and 3: both Send, both Receive on one mailbox, or both Lock on one mutex.
+/// Cases 1, 3 and 5: both Send, both Receive on one mailbox, both Lock on one mutex, or both Note.
 fn compete(a: &Action, b: &Action) -> bool {
     match *a {
         Action::Send { mailbox, .. } => {
@@ -26,9 +27,8 @@ fn compete(a: &Action, b: &Action) -> bool {
             matches!(*b, Action::Receive { mailbox: m, .. } if m == mailbox)
         }
         Action::Lock { mutex } => matches!(*b, Action::Lock { mutex: m } if m == mutex),
-        Action::Set { .. } | Action::Add { .. } | Action::Lesser { .. } => false,
-        Action::TestAny { .. } | Action::WaitAny { .. } | Action::Unlock { .. } => false,
-        Action::MutexTest { .. } | Action::MutexWait { .. } => false,
+        Action::Note { .. } => matches!(*b, Action::Note { .. }),
+        _ => false,
     }
 }
 
@@ -44,9 +44,7 @@ fn watches(table: &Table, actor: usize, a: &Action, b: &Action) -> bool {
         Action::MutexTest { mutexes, .. } | Action::MutexWait { mutexes, .. } => {
             matches!(b, Action::Unlock { mutex } if mutexes.numbers().contains(mutex))
         }
-        Action::Set { .. } | Action::Add { .. } | Action::Lesser { .. } => false,
-        Action::Send { .. } | Action::Receive { .. } => false,
-        Action::Lock { .. } | Action::Unlock { .. } => false,
+        _ => false,
     }
 }
 

@@ -193,7 +193,7 @@ const fn form(kind: Kind) -> Form {
         Kind::Set => (0, Q | Z, false),
         Kind::Add | Kind::Lesser | Kind::Send | Kind::Receive => (Q_OVER_7, Z | B4_TO_B7, false),
         Kind::TestAny | Kind::WaitAny | Kind::MutexTest | Kind::MutexWait => (0, Q, true),
-        Kind::Lock | Kind::Unlock => (0, Q | Z | B4_TO_B7, false),
+        Kind::Lock | Kind::Unlock | Kind::Note => (0, Q | Z | B4_TO_B7, false),
     };
     Form {
         no_cell,

@@ -4,7 +4,7 @@ use crate::site::Site;
 use crate::table::Table;
 
 /// No report is longer.
-pub const REPORT_ROOM: usize = 2_912;
+pub const REPORT_ROOM: usize = 4_450;
 
 /// Writes the report of a state and gives its length. Later bytes keep what they hold.
 ///
@@ -36,6 +36,11 @@ pub fn write(table: &Table, site: &Site, buffer: &mut [u8]) -> usize {
         for &actor in queue {
             writer.put([actor]);
         }
+    }
+    let journal = site.journal();
+    writer.put((journal.len() as u16).to_le_bytes());
+    for entry in journal {
+        writer.put(entry.bytes());
     }
     writer.length
 }

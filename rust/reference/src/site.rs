@@ -3,6 +3,7 @@
 use crate::action::{Action, List};
 use crate::actor::Actor;
 use crate::communication::{Communication, Stage};
+use crate::journal::Entry;
 use crate::mailbox::{Mailbox, Side};
 use crate::mutex::Mutex;
 use crate::name::Name;
@@ -15,6 +16,7 @@ pub struct Site {
     communications: [Communication; Name::COUNT],
     mailboxes: [Mailbox; 8],
     mutexes: [Mutex; 8],
+    journal: Vec<Entry>,
 }
 
 impl Site {
@@ -25,6 +27,7 @@ impl Site {
             communications: [Communication::default(); Name::COUNT],
             mailboxes: std::array::from_fn(|_| Mailbox::empty()),
             mutexes: [Mutex::default(); 8],
+            journal: Vec::new(),
         }
     }
 
@@ -49,6 +52,11 @@ impl Site {
         self.mutexes[mutex].queue()
     }
 
+    /// The journal, oldest entry first.
+    pub fn journal(&self) -> &[Entry] {
+        &self.journal
+    }
+
     /// What `action` is as the next of `actor`.
     #[inline(always)]
     pub fn next(&self, actor: usize, action: &Action) -> Next {
@@ -58,9 +66,8 @@ impl Site {
             Action::WaitAny { actions, .. } => Next::at_place(self.done_place(actor, actions)),
             Action::MutexTest { mutexes, .. } => Next::finding(self.owned_place(actor, mutexes)),
             Action::MutexWait { mutexes, .. } => Next::at_place(self.owned_place(actor, mutexes)),
-            Action::Set { .. } | Action::Lesser { .. } => Next::finding(0),
-            Action::Send { .. } | Action::Receive { .. } => Next::finding(0),
-            Action::Lock { .. } | Action::Unlock { .. } => Next::finding(0),
+            // Always ready.
+            _ => Next::finding(0),
         }
     }
 
@@ -90,6 +97,7 @@ impl Site {
             Action::MutexTest { result, .. } | Action::MutexWait { result, .. } => {
                 self.actors[actor].set(result, finds);
             }
+            Action::Note { cell } => self.note(actor, cell),
         }
         self.actors[actor].position += 1;
         next
@@ -124,6 +132,15 @@ impl Site {
             communication = communication.done(other, value);
         }
         self.communications[own.index()] = communication;
+    }
+
+    /// Adds the step and the cell's value at the end of the journal.
+    fn note(&mut self, actor: usize, cell: u8) {
+        let entry = Entry {
+            step: self.name(actor),
+            value: self.actors[actor].cell(cell),
+        };
+        self.journal.push(entry);
     }
 
     /// The first place, from 1, whose communication is done, or 0.

@@ -1,6 +1,7 @@
 //! A table that the reader accepted.
 
 use crate::action::Action;
+use tables::Kind;
 
 /// An accepted table, seen in its bytes. Only [`crate::check`] makes one.
 #[derive(Clone, Copy, Debug)]
@@ -42,6 +43,12 @@ impl<'a> Table<'a> {
     /// Action `index` of `actor`. Panics where there is none.
     pub fn action(&self, actor: usize, index: usize) -> Action {
         Action::decode(self.script(actor)[index])
+    }
+
+    /// The kind of action `index` of `actor`. Panics where there is none.
+    pub fn kind(&self, actor: usize, index: usize) -> Kind {
+        let [code, ..] = self.script(actor)[index];
+        Kind::of(code).expect("an accepted table has no other number")
     }
 
     /// Each actor's actions, as bytes; none for an actor that there is not.

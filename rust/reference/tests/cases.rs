@@ -1,4 +1,4 @@
-//! Document 01's cases (a) to (h) on table A. The reader's tests have (i) and (j).
+//! Document 01's cases (a) to (h) on table A; with document 02's journal, (a) has two bytes more. The reader's tests have (i) and (j).
 
 mod common;
 
@@ -6,9 +6,9 @@ use common::{A, after, refused, report};
 use reference::{Ending, Ready, pair, ready, route, run, same};
 
 fn run_refused(schedule: &[u8]) -> (u32, u32) {
-    let mut buffer = [7; 2_912];
+    let mut buffer = [7; 4_450];
     let answer = refused(run(&A, schedule, &mut buffer));
-    assert_eq!(buffer, [7; 2_912]);
+    assert_eq!(buffer, [7; 4_450]);
     assert_eq!(refused(ready(&A, schedule)), answer);
     answer
 }
@@ -18,7 +18,7 @@ fn case_a() {
     let site = after(&A, &[0, 1, 0, 1]);
     assert_eq!(site.actor(1).cells, [0, 0, 149, 1, 0, 0, 0, 0]);
     let report = report(&A, &[0, 1, 0, 1]);
-    assert_eq!(report.len(), 100);
+    assert_eq!(report.len(), 102);
     // Two actors: position and cells.
     assert_eq!(report[0..5], [2, 149, 0, 0, 0]);
     assert_eq!(report[33], 2);
@@ -28,7 +28,9 @@ fn case_a() {
     assert_eq!(report[82..90], [2, 0, 1, 0, 149, 0, 0, 0]);
     assert_eq!(report[90..98], [0; 8]);
     // One mailbox.
-    assert_eq!(report[98..], [0, 0]);
+    assert_eq!(report[98..100], [0, 0]);
+    // The journal.
+    assert_eq!(report[100..], [0, 0]);
 }
 
 #[test]

@@ -92,8 +92,8 @@ fn header_and_directory() {
 #[test]
 fn an_earlier_action_comes_first() {
     // Byte 15 is z of a Set: unused. Byte 20 is the next action's kind.
-    assert_eq!(answer(&with(&[(15, 1), (20, 11)])), (9, 12));
-    assert_eq!(answer(&with(&[(20, 11), (39, 0)])), (6, 20));
+    assert_eq!(answer(&with(&[(15, 1), (20, 12)])), (9, 12));
+    assert_eq!(answer(&with(&[(20, 12), (39, 0)])), (6, 20));
 }
 
 #[test]
@@ -174,7 +174,7 @@ fn the_largest_and_the_smallest() {
     }
     table.resize(2084, 0);
     assert_eq!(answer(&table), (0, 0));
-    table[2083 - 7] = 11;
+    table[2083 - 7] = 12;
     assert_eq!(answer(&table), (6, 2076));
     assert_eq!(answer(&[1, 1, 0, 0, 8, 0, 0, 0]), (0, 0));
 }

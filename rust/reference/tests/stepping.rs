@@ -210,13 +210,13 @@ fn the_first_refused_entry_counts() {
 
 #[test]
 fn the_report_buffer_comes_first() {
-    let mut short = [3; 2_911];
+    let mut short = [3; 4_449];
     assert_eq!(refused(run(&[], &[9], &mut short)), (10, 0));
     assert_eq!(refused(run(&A, &[], &mut short)), (10, 0));
-    assert_eq!(short, [3; 2_911]);
-    let mut enough = [3; 2_913];
+    assert_eq!(short, [3; 4_449]);
+    let mut enough = [3; 4_451];
     assert_eq!(refused(run(&[], &[9], &mut enough)), (1, 0));
-    assert_eq!(enough, [3; 2_913]);
+    assert_eq!(enough, [3; 4_451]);
 }
 
 #[test]
@@ -237,6 +237,7 @@ fn the_sections_in_order() {
     expected.extend([2, 0, 1, 0, 0, 0]);
     expected.push(0);
     expected.extend([2, 1, 0]);
+    expected.extend([0, 0]);
     assert_eq!(report, expected);
 }
 
@@ -249,7 +250,7 @@ fn full_queues() {
     };
     let schedule: Vec<u8> = (0..8).flat_map(|actor| [actor; 32]).collect();
     let sends = everyone(&[send(0, 0); 32]);
-    let sections = 8 * 33 + 8 * 256 + 8 * 2 + 8;
+    let sections = 8 * 33 + 8 * 256 + 8 * 2 + 8 + 2;
     assert_eq!(report(&sends, &schedule).len(), sections + 256 * 2);
     let mut script = vec![send(7, 0); 24];
     script.extend((0..8).map(lock));

@@ -1,4 +1,4 @@
-//! Pair, same and route against document 01, and the two forms of each rule against each other.
+//! Pair, same and route against the documents, and the two forms of each rule against each other.
 
 mod common;
 
@@ -80,7 +80,7 @@ fn names_that_are_not_in_the_table() {
 fn every_kind(posts: &[[u8; 8]]) -> Vec<[u8; 8]> {
     let mut actions = posts.to_vec();
     actions.extend([set(0, 1), add(0, 1), lesser(0, 1), lock(0), lock(1)]);
-    actions.extend([unlock(0), unlock(1)]);
+    actions.extend([unlock(0), unlock(1), note(0), note(1)]);
     for list in [&[0][..], &[1], &[2, 3], &[3, 1]] {
         actions.extend([test_any(0, list), wait_any(0, list)]);
     }
@@ -91,7 +91,7 @@ fn every_kind(posts: &[[u8; 8]]) -> Vec<[u8; 8]> {
 }
 
 #[test]
-fn footprints_agree_with_the_four_cases() {
+fn footprints_agree_with_the_cases() {
     let script = every_kind(&[send(0, 0), send(1, 0), receive(0, 0), receive(1, 0)]);
     let bytes = table(&[&script, &script]);
     let table = check(&bytes).unwrap();
@@ -208,4 +208,7 @@ fn the_rule_is_the_search() {
     all_pairs(&[&locking, &locking], 6);
     let mixed = [receive(0, 0), lock(1), wait_any(1, &[0]), unlock(1)];
     all_pairs(&[&mixed, &[send(0, 0), lock(1), mutex_wait(0, &[1])]], 6);
+    let noting = [set(0, 1), note(0), set(0, 2)];
+    all_pairs(&[&noting, &noting], 5);
+    all_pairs(&[&noting, &[note(0)], &[note(0), set(0, 1)]], 4);
 }

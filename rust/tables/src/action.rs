@@ -86,6 +86,11 @@ pub fn mutex_wait(result: u8, mutexes: &[u8]) -> Action {
     listing(Kind::MutexWait, result, mutexes)
 }
 
+/// Adds its name and what `cell` holds to the journal.
+pub const fn note(cell: u8) -> Action {
+    lone(Kind::Note, cell)
+}
+
 /// The kind, if the first byte is one.
 pub const fn kind(action: &Action) -> Option<Kind> {
     Kind::of(action[0])

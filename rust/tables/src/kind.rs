@@ -96,6 +96,8 @@ kinds! {
     9 MutexTest "mutex-test", Cell, Mutexes;
     /// Waits for a mutex that is owned.
     10 MutexWait "mutex-wait", Cell, Mutexes;
+    /// Adds its name and a cell's value to the journal.
+    11 Note "note", Cell, Nothing;
 }
 
 impl Kind {

@@ -1,8 +1,10 @@
 //! The calls, a module for each: how its two engines are compared, and what is measured of it. Those that
-//! step schedules share [`totals`], those that take recordings [`lengths`], those that want a fixed room
-//! lent [`room`].
+//! step schedules share [`totals`] and [`notes`], those that compare two of them [`orders`], those that take
+//! recordings [`lengths`], those that want a fixed room lent [`room`].
 
 pub mod lengths;
+pub mod notes;
+pub mod orders;
 pub mod room;
 pub mod totals;
 

@@ -55,6 +55,7 @@ pub const CALL: Call = Call {
             .refused(&[Reason::NoStep], 10_000)
             .notes(&[OWN, DEPENDENT, INDEPENDENT], 10_000)
             .kinds(all.into_iter().flatten(), 100)
+            .notes(&OWN_NOTE, 100)
     },
 };
 
@@ -62,6 +63,11 @@ pub const CALL: Call = Call {
 const PAIRS: usize = 12;
 
 const OWN: &str = "dependent: one actor";
+const OWN_NOTE: [&str; 3] = [
+    "one actor: a Note, then another step",
+    "one actor: another step, then a Note",
+    "one actor: two Notes",
+];
 const DEPENDENT: &str = "dependent: two actors";
 const INDEPENDENT: &str = "independent";
 
@@ -150,13 +156,22 @@ fn note(tally: &mut Tally, asked: &Asked) {
         (true, false) => DEPENDENT,
         (false, _) => INDEPENDENT,
     });
+    let layout = Layout::of(&asked.input.read[0]).expect("the table is accepted");
+    let kind = |step: StepName| {
+        let bytes = layout.action(step.actor, step.action);
+        bytes.and_then(action::kind).expect("the step is there")
+    };
+    let kinds = (kind(one), kind(other));
     if one.actor != other.actor {
-        let layout = Layout::of(&asked.input.read[0]).expect("the table is accepted");
-        let kind = |step: StepName| {
-            let bytes = layout.action(step.actor, step.action);
-            bytes.and_then(action::kind).expect("the step is there")
-        };
-        tally.kinds(kind(one), kind(other));
+        tally.kinds(kinds.0, kinds.1);
+        return;
+    }
+    let [then_another, then_note, both] = OWN_NOTE;
+    match kinds {
+        (Kind::Note, Kind::Note) => tally.note(both),
+        (Kind::Note, _) => tally.note(then_another),
+        (_, Kind::Note) => tally.note(then_note),
+        _ => {}
     }
 }
 

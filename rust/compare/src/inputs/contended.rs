@@ -5,7 +5,7 @@ use crate::inputs::rng::Rng;
 use crate::inputs::sample::{Sample, Script, Shape};
 use crate::inputs::totals;
 use reference::{Action, Site};
-use tables::action;
+use tables::{Kind, action};
 
 /// How large a table is made.
 #[derive(Clone, Copy, PartialEq, Eq, Debug)]
@@ -78,7 +78,15 @@ pub fn table(rng: &mut Rng, size: Size) -> (Sample, Option<Vec<u8>>) {
     if rng.once_in(8) {
         return (totals::table(rng, shape), None);
     }
-    let mix = rng.pick(&Mix::ALL);
+    let mut mix = rng.pick(&Mix::ALL);
+    // Without Notes more can be exchanged: the longest routes are those of large tables.
+    let times = match size {
+        Size::Tiny | Size::Small => 3,
+        Size::Large | Size::Maximal => 2,
+    };
+    if rng.once_in(times) {
+        mix = mix.without(Kind::Note);
+    }
     if rng.once_in(2) {
         let (sample, schedule) = grown(rng, shape, &mix);
         return (sample, Some(schedule));

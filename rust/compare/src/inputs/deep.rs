@@ -55,7 +55,7 @@ pub fn one_mutex(rng: &mut Rng) -> (Vec<u8>, Vec<u8>) {
 
 /// The table of these actions, and a schedule: first each actor's steps at positions that come
 /// `early`, in any order, then whatever is ready, to the end.
-fn run_out(
+pub(super) fn run_out(
     rng: &mut Rng,
     shape: Shape,
     scripts: Vec<Script>,

@@ -6,13 +6,14 @@ use crate::inputs::digits;
 use crate::inputs::entries::{Fault, Place};
 use crate::inputs::families::{FAMILIES, Family};
 use crate::inputs::mix::Mix;
+use crate::inputs::notes;
 use crate::inputs::rng::Rng;
 use crate::inputs::sample::{Sample, Shape};
 use crate::inputs::steps::suited;
 use crate::inputs::totals;
 
 /// The families, each as often as it shall have its turn.
-pub const SITES: [Family; 16] = [
+pub const SITES: [Family; 18] = [
     contended,
     contended,
     contended,
@@ -25,6 +26,8 @@ pub const SITES: [Family; 16] = [
     idle,
     deep_mailbox,
     deep_mutex,
+    all_notes,
+    notes_of_one,
     of_digits,
     damaged,
     damaged,
@@ -83,6 +86,16 @@ fn deep_mailbox(rng: &mut Rng) -> Vec<u8> {
 /// All are queued for one mutex.
 fn deep_mutex(rng: &mut Rng) -> Vec<u8> {
     one_mutex(rng).0
+}
+
+/// Every action is a Note.
+fn all_notes(rng: &mut Rng) -> Vec<u8> {
+    notes::every_action(rng).0
+}
+
+/// One actor alone has Notes.
+fn notes_of_one(rng: &mut Rng) -> Vec<u8> {
+    notes::one_actor(rng).0
 }
 
 /// Cells hold numbers of every length.

@@ -5,6 +5,7 @@ use crate::inputs::deep::{one_mailbox, one_mutex};
 use crate::inputs::entries::{Fault, Place, fault, spoilt};
 use crate::inputs::families::FAMILIES;
 use crate::inputs::mix::Mix;
+use crate::inputs::notes::{every_action, one_actor};
 use crate::inputs::rng::Rng;
 use crate::inputs::sample::{Sample, Shape};
 use crate::inputs::totals;
@@ -28,8 +29,8 @@ impl Steps {
     /// One of any sort: accepted, refused at an entry, or with a table that is refused.
     pub fn any(rng: &mut Rng) -> Self {
         match rng.below(512) {
-            0..8 => Self::deep(rng),
-            8..256 => Self::accepted(rng),
+            0..14 => Self::deep(rng),
+            14..256 => Self::accepted(rng),
             256..448 => Self::refused(rng),
             448..480 => Self::noise(rng),
             _ => Self::damaged(rng),
@@ -48,9 +49,10 @@ impl Steps {
         }
     }
 
-    /// A queue filled, and the schedule cut in every second.
+    /// A queue or the journal filled, and the schedule cut in every second.
     fn deep(rng: &mut Rng) -> Self {
-        let fill = rng.pick(&[one_mailbox, one_mutex, one_mutex]);
+        let fills = [one_mailbox, one_mutex, one_mutex, every_action, one_actor];
+        let fill = rng.pick(&fills);
         let (table, mut schedule) = fill(rng);
         if rng.once_in(2) {
             schedule.truncate(rng.between(0, schedule.len()));

@@ -4,10 +4,12 @@ use crate::inputs::contended::{Size, table};
 use crate::inputs::entries::{Fault, fault, spoilt};
 use crate::inputs::families::FAMILIES;
 use crate::inputs::interleave::{exchanged, interleaved, twisted};
+use crate::inputs::notes::{every_action, one_actor};
 use crate::inputs::rng::Rng;
 use crate::inputs::steps::{noise, suited};
 use crate::inputs::walk::{Walk, accepted};
-use reference::{Table, check};
+use reference::trace::Trace;
+use reference::{Schedule, Table, check};
 
 /// A table and two schedules.
 pub struct Twins {
@@ -27,12 +29,14 @@ impl Twins {
 
     /// Of any sort: same, different, or refused.
     pub fn any(rng: &mut Rng) -> Self {
-        match rng.below(32) {
+        match rng.below(33) {
             0 => Self::damaged(rng),
+            32 => Self::noted(rng),
             1..6 => Self::refused(rng),
             6..15 => Self::aimed(rng, same),
             15..19 => Self::aimed(rng, interleaved),
-            19..26 => Self::aimed(rng, twisted),
+            19..25 => Self::aimed(rng, twisted),
+            25 => Self::aimed(rng, neighbours),
             26..28 => Self::aimed(rng, other_names),
             _ => Self::aimed(rng, other_length).either_way(rng),
         }
@@ -56,6 +60,20 @@ impl Twins {
                     second,
                 };
             }
+        }
+    }
+
+    /// A table whose journal grows, and two schedules of all its steps: same, or hardly different.
+    fn noted(rng: &mut Rng) -> Self {
+        let make = rng.pick(&[every_action, one_actor]);
+        let (bytes, first) = make(rng);
+        let checked = check(&bytes).expect("the table is right");
+        let second = rng.pick(&[neighbours as Second, twisted, same]);
+        let second = second(rng, &checked, &first).unwrap_or_else(|| first.clone());
+        Self {
+            table: bytes,
+            first,
+            second,
         }
     }
 
@@ -107,6 +125,16 @@ type Second = fn(&mut Rng, &Table, &[u8]) -> Option<Vec<u8>>;
 fn same(rng: &mut Rng, table: &Table, first: &[u8]) -> Option<Vec<u8>> {
     let second = exchanged(rng, table, first);
     (second != first || rng.once_in(12)).then_some(second)
+}
+
+/// Two neighbours of different actors in other order, and nothing else.
+fn neighbours(rng: &mut Rng, table: &Table, first: &[u8]) -> Option<Vec<u8>> {
+    let k = rng.below(first.len().max(2) - 1);
+    let mut schedule = first.to_vec();
+    schedule.get(k..k + 2)?;
+    schedule.swap(k, k + 1);
+    let accepted = Trace::of(table, Schedule::First, &schedule).is_ok();
+    (accepted && schedule != first).then_some(schedule)
 }
 
 /// As long as the first if possible, with other names mostly.

@@ -18,11 +18,12 @@ const REPORT: Choice = to_file("--report", "also write the state report's bytes 
 /// The sub-command.
 pub static COMMAND: Command = Command {
     name: "run",
-    summary: "what a schedule leads to: positions, cells, pairs, queues",
+    summary: "what a schedule leads to: positions, cells, pairs, queues, the journal",
     about: "\
 Runs a schedule from a fresh site and says how the state stands that it leads to: finished, stuck
 or going; where each actor stands and what its eight cells hold; which Receive has met which Send,
-and the value; what waits in each mailbox; and who is queued for each mutex, the owner first.",
+and the value; what waits in each mailbox; who is queued for each mutex, the owner first; and, where
+the table has Notes, the journal: which Notes ran, the oldest first, and what each wrote.",
     operands: &[TABLE, SCHEDULE],
     options: &[STEPS, REPORT],
     example: Example {

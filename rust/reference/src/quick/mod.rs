@@ -1,5 +1,5 @@
 //! The page, the draw, the same verdict and the route made for speed, for the benchmark alone: digits
-//! written one by one, nothing on the heap, actors asked again only where something can have changed, and
+//! written one by one, nothing on the heap but a journal's entries, actors asked again only where something can have changed, and
 //! dependence by footprints. They answer as [`crate::page()`], [`crate::draw()`], [`crate::same()`],
 //! [`crate::prefix()`] and [`crate::route()`] do.
 
@@ -117,7 +117,8 @@ pub fn route(
     Ok(pull(first.names(), second.names(), route))
 }
 
-/// Equal lengths, the same names, and no dependent pair that the second runs in the opposite order.
+/// Equal lengths, the same names, and no dependent pair that the second runs in the opposite order. Such
+/// a pair is of two actors: either schedule runs an actor's steps in the order of their numbers.
 fn ordered(first: &Steps, second: &Steps) -> bool {
     let Some(places) = places(first.names(), second.names()) else {
         return false;
@@ -126,9 +127,9 @@ fn ordered(first: &Steps, second: &Steps) -> bool {
     let places = &places[..length];
     let footprints = &first.footprints[..length];
     for later in 0..length {
-        let (place, meets) = (places[later], footprints[later].meets);
+        let (place, footprint) = (places[later], &footprints[later]);
         for earlier in 0..later {
-            if places[earlier] > place && footprints[earlier].marks & meets != 0 {
+            if places[earlier] > place && footprints[earlier].meets(footprint) {
                 return false;
             }
         }

@@ -1,9 +1,9 @@
 //! The cases, with what documents 01 and 02 ask to be printed.
 
 use crate::case::{Case, File};
-use tables::action::{add, lock, mutex_wait, receive, set, wait_any};
+use tables::action::{add, lock, mutex_wait, note, receive, set, wait_any};
 use tables::layout::{ACTION, LONGEST, MOST, MOST_ACTIONS};
-use tables::{Kind, Layout, TABLE_A};
+use tables::{Action, Kind, Layout, TABLE_A};
 
 /// All of them.
 pub fn cases() -> Vec<Case> {
@@ -13,6 +13,7 @@ pub fn cases() -> Vec<Case> {
     cases.extend(limits());
     cases.extend(ends());
     cases.extend(totals());
+    cases.extend(notes());
     cases.extend(unreadable());
     cases
 }
@@ -78,6 +79,11 @@ fn refused_tables() -> Vec<Case> {
             "refused 5 at 0",
         ),
         refused("refused-6", changed(12, 255), "refused 6 at 12"),
+        refused(
+            "refused-6-next",
+            changed(12, Kind::COUNT as u8),
+            "refused 6 at 12",
+        ),
         refused("refused-7-z", changed(39, 0), "refused 7 at 36"),
         refused("refused-7-mailbox", changed(21, 1), "refused 7 at 20"),
         refused("refused-8", changed(40, 1), "refused 8 at 36"),
@@ -216,6 +222,26 @@ fn totals() -> Vec<Case> {
             ["0 0", "end stuck"],
         ),
         Case::new("refused-21-stuck", waiting, [0, 0], ["refused 21 at 1"]),
+    ]
+}
+
+/// Notes: a line each, and nothing of the journal. One with a cell that does not exist, and one with a byte
+/// too many.
+fn notes() -> Vec<Case> {
+    let pump = |price| [set(0, price), note(0), note(7)];
+    let table = Layout::new(0, 0, &[&pump(145), &pump(139)]);
+    let whole = ["0 0", "1 0", "1 1", "0 1", "0 2", "1 2", "end finished"];
+    let begun = ["1 0", "1 1", "end going"];
+    let refused = |name, script: &[Action], line| {
+        Case::new(name, Layout::new(0, 0, &[script]).bytes(), [0], [line])
+    };
+    let mut used = note(7);
+    used[7] = 1;
+    vec![
+        Case::new("notes", table.bytes(), [0, 1, 1, 0, 0, 1], whole),
+        Case::new("notes-begun", table.bytes(), [1, 1], begun),
+        refused("notes-refused-7", &[note(0), note(8)], "refused 7 at 16"),
+        refused("notes-refused-9", &[note(0), used], "refused 9 at 16"),
     ]
 }
 

@@ -4,6 +4,7 @@
 mod rule;
 mod sights;
 
+use crate::calls::notes::journal;
 use crate::calls::room::Room;
 use crate::harness::asked::Asked;
 use crate::harness::call::{Call, Each};
@@ -45,6 +46,7 @@ pub const CALL: Call = Call {
         });
         if asked.accepted() {
             sights::note(tally, asked.input, drawn(asked));
+            journal::note(tally, &asked.input.read[0], drawn(asked));
         }
     },
     demands: |demands, _| {
@@ -53,7 +55,8 @@ pub const CALL: Call = Call {
             .accepted(50_000)
             .refused(&Reason::OF_TABLE, 200)
             .refused(&[Reason::ScheduleRoom], 2_000);
-        sights::demands(ROOM.demands(demands, &[&Reason::OF_TABLE], 300))
+        let demands = ROOM.demands(demands, &[&Reason::OF_TABLE], 300);
+        sights::demands(journal::demands(demands, 100))
     },
 };
 

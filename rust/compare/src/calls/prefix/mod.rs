@@ -3,6 +3,7 @@
 
 mod cut;
 
+use crate::calls::notes::exchanges;
 use crate::calls::{lengths, same, totals};
 use crate::harness::asked::Asked;
 use crate::harness::call::Call;
@@ -44,6 +45,7 @@ pub const CALL: Call = Call {
             .refused(&Reason::OF_TABLE, 100)
             .refused(&Reason::OF_FIRST, 1_000)
             .refused(&Reason::OF_SECOND, 1_000);
+        let demands = exchanges::demands(demands, 50);
         cut::demands(lengths::demands(demands, 10))
     },
 };
@@ -59,6 +61,9 @@ fn note(tally: &mut Tally, asked: &Asked) {
     let [_, first, second] = asked.input.slices();
     lengths::note(tally, first, second);
     totals::note_stepped(tally, asked, parts(asked.input));
+    if asked.accepted() {
+        exchanges::note(tally, parts(asked.input), asked.reference.values[0] == 1);
+    }
     cut::note(tally, asked);
 }
 

@@ -9,15 +9,18 @@ use tables::layout::MOST;
 use tables::{Kind, Rest, action};
 
 const LONG: &str = "256 entries accepted";
-const LONGEST_REPORT: &str = "report of 2,848 bytes";
+const LONGEST_REPORT: &str = "report of 3,874 bytes";
+const REPORT_OF_A: &str = "report of 102 bytes";
 const MAILBOX: &str = "mailbox queued";
 const FULL_MAILBOX: &str = "mailbox queued by 256";
 const MUTEX: &str = "mutex queued by two";
 const FULL_MUTEX: &str = "mutex queued by 8";
 const OWNER_LEAVES: &str = "owner of 8 leaves";
 
-/// The longest report that a run can have.
-const LONGEST: u32 = 2_848;
+/// The longest report that a run can have: every action is a Note.
+const LONGEST: u32 = 3_874;
+/// The length of table A's report at its end.
+const OF_A: u32 = 102;
 
 /// What must have been met, and how often.
 pub fn demands(demands: Demands) -> Demands {
@@ -27,7 +30,8 @@ pub fn demands(demands: Demands) -> Demands {
         .notes(
             &[FULL_MAILBOX, FULL_MUTEX, OWNER_LEAVES, LONGEST_REPORT],
             100,
-        );
+        )
+        .notes(&[REPORT_OF_A], 20);
     let lists = Kind::ALL.into_iter().filter(|&kind| lists(kind));
     let places: Vec<String> = lists.map(last_place).collect();
     let writes = Kind::ALL.into_iter().filter(|&kind| writes(kind));
@@ -47,11 +51,10 @@ fn lists(kind: Kind) -> bool {
 
 /// Whether steps of this kind make a value that can be anything.
 fn writes(kind: Kind) -> bool {
-    match kind {
-        Kind::Set | Kind::Add | Kind::Lesser | Kind::Send => true,
-        Kind::Receive | Kind::TestAny | Kind::WaitAny => false,
-        Kind::Lock | Kind::Unlock | Kind::MutexTest | Kind::MutexWait => false,
-    }
+    matches!(
+        kind,
+        Kind::Set | Kind::Add | Kind::Lesser | Kind::Send | Kind::Note
+    )
 }
 
 fn last_place(kind: Kind) -> String {
@@ -67,8 +70,10 @@ pub fn note(tally: &mut Tally, table: &[u8], schedule: &[u8], length: u32) {
     if schedule.len() == 256 {
         tally.note(LONG);
     }
-    if length == LONGEST {
-        tally.note(LONGEST_REPORT);
+    for (wanted, what) in [(LONGEST, LONGEST_REPORT), (OF_A, REPORT_OF_A)] {
+        if length == wanted {
+            tally.note(what);
+        }
     }
     let table = check(table).expect("the table is accepted");
     let mut met = Met::default();
@@ -122,11 +127,12 @@ impl Met {
             Action::Add { cell, .. } => self.made(Kind::Add, holds(cell)),
             Action::Lesser { cell, .. } => self.made(Kind::Lesser, holds(cell)),
             Action::Send { cell, .. } => self.made(Kind::Send, holds(cell)),
+            Action::Note { cell } => self.made(Kind::Note, holds(cell)),
             Action::TestAny { result, .. } => self.found(Kind::TestAny, holds(result) == last),
             Action::WaitAny { result, .. } => self.found(Kind::WaitAny, holds(result) == last),
             Action::MutexTest { result, .. } => self.found(Kind::MutexTest, holds(result) == last),
             Action::MutexWait { result, .. } => self.found(Kind::MutexWait, holds(result) == last),
-            Action::Receive { .. } | Action::Lock { .. } | Action::Unlock { .. } => {}
+            _ => {}
         }
     }
 

@@ -2,6 +2,8 @@
 
 mod depth;
 
+use crate::calls::room::Room;
+use crate::calls::notes::journal;
 use crate::calls::totals;
 use crate::harness::call::Call;
 use crate::harness::slots::{Buffer, Lent, SCHEDULE, Slots, TABLE};
@@ -34,9 +36,13 @@ pub const CALL: Call = Call {
     mistake: |asked| asked.unequal(),
     note: |tally, asked| {
         totals::note(tally, asked);
+        ROOM.note(tally, asked, |input, buffer| {
+            reference::run(&input.read[0], &input.read[1], buffer)
+        });
         if asked.accepted() {
             let [table, schedule, _] = &asked.input.read;
             depth::note(tally, table, schedule, asked.reference.values[0]);
+            journal::note(tally, table, schedule);
         }
     },
     demands: |demands, _| {
@@ -45,8 +51,15 @@ pub const CALL: Call = Call {
             .refused(&Reason::OF_TABLE, 200)
             .refused(&[Reason::ReportRoom], 5_000)
             .places(&Reason::OF_FIRST, 2_000);
-        depth::demands(totals::demands(demands, &[Reason::Over], 1_000))
+        let demands = depth::demands(totals::demands(demands, &[Reason::Over], 1_000));
+        let then = [&Reason::OF_TABLE[..], &Reason::OF_FIRST];
+        journal::demands(ROOM.demands(demands, &then, 1_000), 100)
     },
+};
+
+const ROOM: Room = Room {
+    least: REPORT_ROOM,
+    refusal: Reason::ReportRoom,
 };
 
 /// Measures it on a load.

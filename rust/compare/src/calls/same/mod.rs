@@ -3,6 +3,7 @@
 
 mod reversed;
 
+use crate::calls::notes::{exchanges, journal};
 use crate::calls::totals;
 use crate::harness::asked::Asked;
 use crate::harness::call::Call;
@@ -40,6 +41,8 @@ pub const CALL: Call = Call {
     demands: |demands, tally| {
         let quarter = tally.accepted() / 4;
         let tenth = tally.noted(DIFFERENT) / 10;
+        let demands = journal::demands(demands, 20);
+        let demands = exchanges::demands(demands, 50);
         totals::demands(demands, &[Reason::Over, Reason::SecondOver], 100)
             .accepted(100_000)
             .refused(&Reason::OF_TABLE, 100)
@@ -114,6 +117,8 @@ fn note(tally: &mut Tally, asked: &Asked) {
     }
     let [table, first, second] = &asked.input.read;
     let same = asked.reference.values[0] == 1;
+    journal::note(tally, table, first);
+    exchanges::note(tally, asked.input.slices(), same);
     tally.note(if same { SAME } else { DIFFERENT });
     if searched(first) {
         tally.note(if same {

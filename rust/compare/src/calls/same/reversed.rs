@@ -1,12 +1,12 @@
 //! Two schedules that differ by one dependent pair alone: each pair of kinds that can be dependent
 //! must have been the one.
 
+use crate::calls::orders::{kinds, opposed};
 use crate::harness::tally::Tally;
 use reference::pair::dependent;
-use reference::trace::Trace;
-use reference::{Name, Schedule, Table, check};
+use reference::{Name, check};
 use tables::action::{listing, lone, receive, send, two, valued};
-use tables::{Action, Kind, Layout, Rest, action};
+use tables::{Action, Kind, Layout, Rest};
 
 /// The longest schedules that are looked at.
 const LONGEST: usize = 40;
@@ -17,34 +17,13 @@ pub fn note(tally: &mut Tally, table: &[u8], first: &[u8], second: &[u8]) {
     if first.len() > LONGEST {
         return;
     }
-    let checked = check(table).expect("the table is accepted");
-    let names = |schedule: &[u8]| {
-        let trace = Trace::of(&checked, Schedule::First, schedule);
-        trace.expect("the schedule is accepted").names().to_vec()
-    };
-    let mut pairs = reversed(&checked, &names(first), &names(second)).into_iter();
-    if let (Some((one, other)), None) = (pairs.next(), pairs.next()) {
-        let layout = Layout::of(table).expect("the table is accepted");
-        let kind = |name: Name| {
-            let bytes = &layout.scripts[name.actor()][name.action()];
-            action::kind(bytes).expect("the table is accepted")
-        };
-        tally.kinds(kind(one), kind(other));
+    let table = check(table).expect("the table is accepted");
+    let mut pairs = opposed(&table, first, second);
+    pairs.retain(|&(one, other)| dependent(&table, one, other));
+    if let [pair] = pairs[..] {
+        let (one, other) = kinds(&table, pair);
+        tally.kinds(one, other);
     }
-}
-
-/// The dependent pairs that the second runs in the opposite order.
-fn reversed(table: &Table, first: &[Name], second: &[Name]) -> Vec<(Name, Name)> {
-    let place = |name: Name| second.iter().position(|&other| other == name);
-    let mut pairs = Vec::new();
-    for (later, &other) in first.iter().enumerate() {
-        for &one in &first[..later] {
-            if place(one) > place(other) && dependent(table, one, other) {
-                pairs.push((one, other));
-            }
-        }
-    }
-    pairs
 }
 
 /// The pairs of kinds that can be dependent in steps of different actors, by the reference's verdict

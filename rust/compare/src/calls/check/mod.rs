@@ -1,5 +1,7 @@
 //! The table reader.
 
+mod actions;
+
 use crate::harness::call::{Call, Each};
 use crate::harness::slots::{Buffer, Input, Lent, Slots, TABLE};
 use crate::inputs::families::FAMILIES;
@@ -29,10 +31,10 @@ pub const CALL: Call = Call {
     engine: |lent| order_engine::check::fields(lent.read[0]).into(),
     reference: |lent: Lent| reference::validate(lent.read[0]).map(|()| []).into(),
     mistake: |asked| asked.unequal(),
-    note: |_, _| {},
+    note: actions::note,
     demands: |demands, _| {
         let demands = demands.total("tables", 300_000).accepted(10_000);
-        demands.refused(&Reason::OF_TABLE, 1_000)
+        actions::demands(demands.refused(&Reason::OF_TABLE, 1_000), 100)
     },
 };
 

@@ -1,5 +1,9 @@
 //! A state report, seen in its bytes.
 
+mod journal;
+
+pub use journal::{Entry, Journal};
+
 use crate::step::StepName;
 
 /// Bytes of an actor's record: its position and eight cells of four bytes.
@@ -143,17 +147,32 @@ impl<'a> Report<'a> {
 
     /// The mutexes, by number.
     pub fn mutexes(&self) -> impl Iterator<Item = Mutex<'a>> + use<'a> {
-        let mut rest = self.queues();
-        for number in 0..self.mailboxes {
-            mailbox(number, &mut rest);
-        }
+        let mut rest = self.after_mailboxes();
         (0..self.mutexes).map(move |number| mutex(number, &mut rest))
+    }
+
+    /// The journal.
+    pub fn journal(&self) -> Journal<'a> {
+        let mut rest = self.after_mailboxes();
+        for number in 0..self.mutexes {
+            mutex(number, &mut rest);
+        }
+        Journal::of(rest)
     }
 
     /// The bytes from the first mailbox on.
     fn queues(&self) -> &'a [u8] {
         let actions: usize = self.counts.iter().map(|&count| usize::from(count)).sum();
         &self.bytes[RECORD * usize::from(self.actors) + ACTION * actions..]
+    }
+
+    /// The bytes from the first mutex on.
+    fn after_mailboxes(&self) -> &'a [u8] {
+        let mut rest = self.queues();
+        for number in 0..self.mailboxes {
+            mailbox(number, &mut rest);
+        }
+        rest
     }
 }
 
