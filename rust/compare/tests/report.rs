@@ -102,6 +102,6 @@ fn journal(report: &Report, site: &Site, met: &mut Met) {
     let entries = report.journal().entries();
     met.noted += entries.len();
     let entries = entries.map(|entry| (entry.step, entry.value));
-    let written = site.journal().iter();
+    let written = site.journal();
     assert!(entries.eq(written.map(|entry| (step(entry.step), entry.value))));
 }

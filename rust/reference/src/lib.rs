@@ -24,7 +24,7 @@
 //!   made for speed, to be measured.
 //!
 //! The stepping engine knows a table by [`Table`] alone, which only [`check`] makes. Stepping needs no
-//! heap but for a journal's entries; a step costs the same however long the schedule and the queues are.
+//! heap, and a step costs the same however long the schedule and the queues are.
 //!
 //! # What it shares with the proved engine
 //!

@@ -3,7 +3,7 @@
 use crate::action::{Action, List};
 use crate::actor::Actor;
 use crate::communication::{Communication, Stage};
-use crate::journal::Entry;
+use crate::journal::{Entry, Journal};
 use crate::mailbox::{Mailbox, Side};
 use crate::mutex::Mutex;
 use crate::name::Name;
@@ -16,7 +16,7 @@ pub struct Site {
     communications: [Communication; Name::COUNT],
     mailboxes: [Mailbox; 8],
     mutexes: [Mutex; 8],
-    journal: Vec<Entry>,
+    journal: Journal,
 }
 
 impl Site {
@@ -27,7 +27,7 @@ impl Site {
             communications: [Communication::default(); Name::COUNT],
             mailboxes: std::array::from_fn(|_| Mailbox::empty()),
             mutexes: [Mutex::default(); 8],
-            journal: Vec::new(),
+            journal: Journal::empty(),
         }
     }
 
@@ -53,8 +53,8 @@ impl Site {
     }
 
     /// The journal, oldest entry first.
-    pub fn journal(&self) -> &[Entry] {
-        &self.journal
+    pub fn journal(&self) -> impl ExactSizeIterator<Item = Entry> + '_ {
+        self.journal.entries()
     }
 
     /// What `action` is as the next of `actor`.
@@ -140,7 +140,7 @@ impl Site {
             step: self.name(actor),
             value: self.actors[actor].cell(cell),
         };
-        self.journal.push(entry);
+        self.journal.add(entry);
     }
 
     /// The first place, from 1, whose communication is done, or 0.

@@ -1,5 +1,5 @@
 //! The page, the draw, the same verdict and the route made for speed, for the benchmark alone: digits
-//! written one by one, nothing on the heap but a journal's entries, actors asked again only where something can have changed, and
+//! written one by one, nothing on the heap, actors asked again only where something can have changed, and
 //! dependence by footprints. They answer as [`crate::page()`], [`crate::draw()`], [`crate::same()`],
 //! [`crate::prefix()`] and [`crate::route()`] do.
 

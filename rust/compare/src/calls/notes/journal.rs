@@ -66,7 +66,7 @@ impl Noted {
             }
             picked[actor] = picks_up(table, actor, &step, next);
         }
-        noted.journal = site.journal().to_vec();
+        noted.journal = site.journal().collect();
         noted.changed = noted.journal.iter().any(|entry| {
             let actor = entry.step.actor();
             match table.action(actor, entry.step.action()) {
