@@ -1,13 +1,13 @@
 -- The journal at given inputs (document 02, W5): the value is that of the moment, the order is that of the run; which tables with a Note are refused;
 -- and how long a journal is in the report. `proofs/JournalExamples.antt` computes them.
 -- Assumes nothing: these are definitions.
-use Prim.Native.Nat.{ℕ}
+use Prim.Native.Nat.{ℕ, _+_}
 use mathlib.Core.List.{List, [], _∷_, _++_}
 use lib.ListN.{replicate, set}
 use Rattle.table.specs.Outcome.{accepted, refused}
 use Rattle.model.specs.Site.{Entry, name}
 use Rattle.model.specs.Calls.{gives, refuses, same, different}
-use Rattle.model.specs.Claims.{Claim, _⇒_, read, runIn, run, journal, areSame, outcome, ran, entries, judged}
+use Rattle.model.specs.Claims.{Claim, _⇒_, read, runIn, run, bytes, journal, areSame, outcome, ran, written, entries, judged}
 use Rattle.model.specs.Examples.{plain, sets, lists, send, receive, waitAny, note, tableWith, site, two}
 
 abbrev pub entry : (actor action value : ℕ) → Entry
@@ -31,6 +31,9 @@ kept =
     -- the value at that moment: a later Set does not change it
     ∷ journal (site (noteTwice ∷ [])) (0 ∷ 0 ∷ 0 ∷ []) ⇒ entries (entry 0 1 5 ∷ [])
     ∷ journal (site (noteTwice ∷ [])) (0 ∷ 0 ∷ 0 ∷ 0 ∷ []) ⇒ entries (entry 0 1 5 ∷ entry 0 3 6 ∷ [])
+    -- so to the byte: three actions, of which none is a communication, then one entry, 0·1 with 5
+    ∷ bytes (tableWith 0 0 ((sets 0 5 ∷ note ∷ sets 0 6 ∷ []) ∷ [])) (0 ∷ 0 ∷ 0 ∷ [])
+    ⇒ written ((3 ∷ 6 ∷ replicate (31 + 24) 0) ++ (1 ∷ 0 ∷ 0 ∷ 1 ∷ 5 ∷ 0 ∷ 0 ∷ 0 ∷ []))
     -- a value is in the cell once it is picked up, not when it is paired
     ∷ journal notePicked (1 ∷ 1 ∷ 0 ∷ 0 ∷ 0 ∷ 0 ∷ []) ⇒ entries (entry 0 1 0 ∷ entry 0 3 4294967295 ∷ [])
     -- the order of the run, whichever actor it is
