@@ -1,6 +1,6 @@
 // The report's sections of the actors and of their actions. Each writer puts its bytes at the front of the part that it is lent, and answers with
 // their number.
-ghost use mathlib.Core.List.{_∷_, []};
+ghost use mathlib.Core.List.{_∷_};
 ghost use Prim.Native.Nat.{ℕ, _<_, _≤_, _^_};
 ghost use lib.ListN.{length, getD};
 ghost use Rattle.table.specs.Format.{countOf};

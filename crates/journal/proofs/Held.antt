@@ -2,24 +2,23 @@
 -- Assumes nothing.
 use Prim.Native.Nat.{ℕ, _+_, _*_, _/_, _%_, _<_, _≤_}
 use native.Mathlib.Omega.{arith}
-use mathlib.Core.Path.{_≡_, refl, _∙_, ap, ap₂}
+use mathlib.Core.Path.{_≡_, refl, _∙_, ap}
 use mathlib.Core.List.{List, [], _∷_, _++_, map, map-append}
 use lib.ListN.{length, getD, take, drop, set, length-set, length-drop, length-map}
 use lib.Seq.{getD-set-same, drop-set-lt, length-take-le}
-use Rattle.trace.specs.Machine.{Name}
 use Rattle.model.specs.Site.{Entry}
 use Rattle.model.specs.Report.{parts, entryBytes}
 use Rattle.names.specs.InByte.{nameOf}
-use Rattle.state.specs.State.{entryOf, notedIn, journalOf, JournalRoom}
+use Rattle.state.specs.State.{entryOf, numberNoted, journalOf, JournalRoom}
 use Rattle.journal.specs.Parts.{sixBytes, entriesBytes}
 use Rattle.writing.proofs.Stored.{stored}
 use Rattle.writing.proofs.Flat.{flat, flat-at}
 
 -- the journal is as long as its first number says
-pub counts : (journal : List ℕ) → JournalRoom journal → length (journalOf journal) ≡ notedIn journal
+pub counts : (journal : List ℕ) → JournalRoom journal → length (journalOf journal) ≡ numberNoted journal
 counts journal room =
-    let inside : notedIn journal ≤ length (drop 1 journal) = rw length-drop (omega (arith, room .long, room .bounded)) in
-    length-map (take (notedIn journal) (drop 1 journal)) entryOf ∙ length-take-le (notedIn journal) (drop 1 journal) inside
+    let inside : numberNoted journal ≤ length (drop 1 journal) = rw length-drop (omega (arith, room .long, room .bounded)) in
+    length-map (take (numberNoted journal) (drop 1 journal)) entryOf ∙ length-take-le (numberNoted journal) (drop 1 journal) inside
 
 -- ---- one entry more
 
@@ -30,9 +29,9 @@ entry-held name value h =
     let high : (name + 256 * value) / 256 ≡ value = omega arith in
     λ i. record { step = nameOf (low i); value = high i }
 
-module _ (journal : List ℕ) (name value : ℕ) (room : JournalRoom journal) (more : notedIn journal < 256) (small : name < 256) where
+module _ (journal : List ℕ) (name value : ℕ) (room : JournalRoom journal) (more : numberNoted journal < 256) (small : name < 256) where
   abbrev n : ℕ
-  n = notedIn journal
+  n = numberNoted journal
 
   abbrev behind : List ℕ
   behind = set journal (1 + n) (name + 256 * value)
@@ -40,7 +39,7 @@ module _ (journal : List ℕ) (name value : ℕ) (room : JournalRoom journal) (m
   abbrev after : List ℕ
   after = set behind 0 (n + 1)
 
-  counted : notedIn after ≡ n + 1
+  counted : numberNoted after ≡ n + 1
   counted = getD-set-same behind 0 (n + 1) 0 (omega (arith, room .long, length-set journal (1 + n) (name + 256 * value)))
 
   held : take (n + 1) (drop 1 after) ≡ take n (drop 1 journal) ++ ((name + 256 * value) ∷ [])

@@ -5,13 +5,13 @@ ghost use Prim.Native.Nat.{_+_, _<_, _≤_};
 ghost use lib.ListN.{length};
 ghost use Rattle.model.specs.Report.{journalBytes};
 ghost use Rattle.names.specs.InByte.{nameOf};
-ghost use Rattle.state.specs.State.{notedIn, journalOf, JournalRoom};
+ghost use Rattle.state.specs.State.{numberNoted, journalOf, JournalRoom};
 ghost use Rattle.writing.specs.Written.{Wrote};
 ghost use Rattle.journal.specs.Parts.{sixBytes, entriesBytes};
 
 // A Note: its step's name in one byte, and the value.
 pub fn add(journal: &mut [usize; 257], name: usize, value: u32)
-    requires { ⌜ JournalRoom (now journal) × (notedIn (now journal) < 256) × (name < 256) ⌝ }
+    requires { ⌜ JournalRoom (now journal) × (numberNoted (now journal) < 256) × (name < 256) ⌝ }
     ensures { λ _. ⌜ (journalOf (now (journal .exit)) ≡ journalOf (now (journal .entry)) ++ (record { step = nameOf name; value = value } ∷ []))
         × JournalRoom (now (journal .exit)) ⌝ }
 {

@@ -12,13 +12,12 @@ use Rattle.table.specs.declared.Action.the-variants.{Note}
 use Rattle.trace.specs.Machine.{Name}
 use Rattle.trace.specs.Schedule.{final, names}
 use Rattle.model.specs.Site.{Entry, Site, name, initial}
-use Rattle.model.specs.Views.{Post, silent, mails, joins, leaves, notes, posts, sent}
+use Rattle.model.specs.Views.{Post, silent, mails, joins, leaves, notes, posts}
 use Rattle.model.specs.Journal.{noting}
 use Rattle.model.specs.Pair.{isNote}
 use Rattle.model.specs.Step.{actionAt, nextName, nextAction, step}
 use Rattle.model.specs.Schedule.{machine, endState}
-use Rattle.model.specs.Demand3.{Accepted}
-use Rattle.model.specs.Journaled.{noted, inOrder, notedAt, Journaled, EveryJournal}
+use Rattle.model.specs.Journaled.{noted, inOrder, notedAt, EveryJournal}
 use Rattle.model.proofs.ByKind.{posting}
 use Rattle.model.proofs.PairCases.{note-action}
 use Rattle.model.proofs.Reached.{reached-end}

@@ -13,7 +13,7 @@ use Rattle.table.specs.Format.{actorsOf, countOf}
 use Rattle.table.specs.Promise.{isPost}
 use Rattle.trace.specs.Machine.{Name}
 use Rattle.trace.specs.Schedule.{accepted, final}
-use Rattle.trace.specs.Order.{eqName, mem, Distinct, has}
+use Rattle.trace.specs.Order.{eqName, mem, has}
 use Rattle.trace.proofs.Bools.{which, contrary, is-false}
 use Rattle.trace.proofs.Names.{eqName-refl, eqName-true}
 use Rattle.trace.proofs.Run.{first-ready, rest-accepted}

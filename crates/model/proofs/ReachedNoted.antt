@@ -1,18 +1,16 @@
 -- The journal stays right when a step that is not in it runs: a Note is then in it, once, and every other name is in it exactly if it was.
 -- Assumes nothing.
 use Prim.Native.Nat.{ℕ}
-use mathlib.Core.Path.{_≡_, refl, sym, _∙_, ap}
-use mathlib.Core.Logic.{_⊎_, inl, inr, _≢_}
-use mathlib.Core.Bool.{true, false, true≢false}
+use mathlib.Core.Path.{_≡_, refl, _∙_, ap}
+use mathlib.Core.Logic.{_⊎_, inl, inr}
+use mathlib.Core.Bool.{true, false}
 use mathlib.Core.List.{List, [], _∷_, _++_}
-use lib.Dec.{eqb}
 use Rattle.trace.specs.Machine.{Name}
-use Rattle.trace.specs.Order.{eqName, mem, Distinct}
+use Rattle.trace.specs.Order.{mem, Distinct}
 use Rattle.trace.proofs.Names.{mem-head}
 use Rattle.model.specs.Site.{Entry}
 use Rattle.model.specs.Views.{Post, silent, mails, joins, leaves, notes}
 use Rattle.model.specs.Journal.{noting}
-use Rattle.model.specs.Pair.{isNote}
 use Rattle.model.specs.Reached.{notedIn}
 use Rattle.model.proofs.Invariant.{mem-append}
 use Rattle.model.proofs.ReportBoundNames.{mem-append-left, mem-append-right}

@@ -8,7 +8,7 @@ use Rattle.table.specs.Outcome.{accepted, refused}
 use Rattle.model.specs.Site.{Entry, name}
 use Rattle.model.specs.Calls.{gives, refuses, same, different}
 use Rattle.model.specs.Claims.{Claim, _⇒_, read, runIn, run, bytes, journal, areSame, outcome, ran, written, entries, judged}
-use Rattle.model.specs.Examples.{plain, sets, lists, send, receive, waitAny, note, tableWith, site, two}
+use Rattle.model.specs.Examples.{sets, lists, send, receive, waitAny, note, tableWith, site, two}
 
 abbrev pub entry : (actor action value : ℕ) → Entry
 entry actor action value = record { step = name actor action; value = value }

@@ -17,7 +17,7 @@ use Rattle.model.specs.Schedule.{machine, endState, RefusalNumbers, checkSchedu
 use Rattle.model.proofs.Checks.{taken-checks}
 use Rattle.model.proofs.ReportBound.{entries-room}
 use Rattle.names.specs.InByte.{nameOf}
-use Rattle.state.specs.State.{recordOf, recordsOf, freshActor, commOf, commsOf, waitingOf, queuesOf, entryOf, notedIn, journalOf, siteOf, portNumber}
+use Rattle.state.specs.State.{recordOf, recordsOf, freshActor, commOf, commsOf, waitingOf, queuesOf, entryOf, numberNoted, journalOf, siteOf, portNumber}
 use Rattle.play.specs.Parts.{Empty, Ended}
 use Rattle.state.specs.declared.Actor.{Actor}
 use Rattle.play.proofs.Playing.{Playing, Named}
@@ -57,10 +57,10 @@ fresh-queues = fun-ext each
     each : (m : ℕ) → queuesOf (zeros 72) m ≡ []
     each m = ap (λ (n : ℕ). take n (drop (9 * m + 1) (zeros 72))) (getD-alike {A = ℕ} 72 (9 * m) 0)
 
-fresh-journal : (journal : List ℕ) → notedIn journal ≡ 0 → journalOf journal ≡ []
+fresh-journal : (journal : List ℕ) → numberNoted journal ≡ 0 → journalOf journal ≡ []
 fresh-journal journal e = ap (λ (n : ℕ). map entryOf (take n (drop 1 journal))) e
 
-fresh-site : (log journal : List ℕ) → notedIn journal ≡ 0 → siteOf (replicate 8 freshActor) (zeros 256) log (zeros 32) (zeros 72) journal ≡ initial
+fresh-site : (log journal : List ℕ) → numberNoted journal ≡ 0 → siteOf (replicate 8 freshActor) (zeros 256) log (zeros 32) (zeros 72) journal ≡ initial
 unfolding initial
 fresh-site log journal e =
     λ i. record {
@@ -70,7 +70,7 @@ fresh-site log journal e =
       journal = fresh-journal journal e i;
     }
 
-start-empty : (table schedule log journal : List ℕ) → WellFormed table → length log ≡ 4096 → length journal ≡ 257 → notedIn journal ≡ 0
+start-empty : (table schedule log journal : List ℕ) → WellFormed table → length log ≡ 4096 → length journal ≡ 257 → numberNoted journal ≡ 0
     → Playing table schedule (zeros 256) log (zeros 32) (zeros 72) journal (replicate 8 freshActor) 0
 start-empty table schedule log journal ok log-long journal-long none =
     record {

@@ -31,7 +31,7 @@ use Rattle.model.proofs.Journaled.{note-longer}
 use Rattle.model.proofs.ReportBoundCells.{cellsAfter-length}
 use Rattle.model.proofs.ReportBound.{entries-room, journal-room}
 use Rattle.names.specs.InByte.{nameOf}
-use Rattle.state.specs.State.{recordOf, recordsOf, freshActor, mailOf, queuesOf, notedIn, siteOf, EightCells, nextOf, seenFrom, stepAs}
+use Rattle.state.specs.State.{recordOf, recordsOf, freshActor, mailOf, queuesOf, numberNoted, siteOf, EightCells, nextOf, seenFrom, stepAs}
 use Rattle.step.specs.Parts.{Steppable, StepTaken}
 use Rattle.state.specs.declared.Actor.{Actor}
 use Rattle.step.specs.declared.Stepped.{Stepped}
@@ -129,7 +129,7 @@ module _ {table schedule comms log ends queues journal : List ℕ} {actors : Lis
             omega arith
 
         -- a Note is taken, so that the journal with its entry is that of a state that is reached too
-        note-more : (cell : ℕ) → x ≡ Note cell → notedIn journal < 256
+        note-more : (cell : ℕ) → x ≡ Note cell → numberNoted journal < 256
         note-more cell e =
             let now : ready table (reached table schedule i) a ≡ true =
             ready-here (ap (stepOf table (seenFrom r (mailOf comms log ends) (queuesOf queues)) a) e) in

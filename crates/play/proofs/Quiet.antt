@@ -1,7 +1,7 @@
 -- A step that nobody waits for leaves the others as they are: who is ready changes for its own actor alone.
 -- Assumes nothing.
 use mathlib.Core.Path.{_≡_, _∙_, ap}
-use mathlib.Core.Logic.{_⊎_, inl, inr, _≢_}
+use mathlib.Core.Logic.{inl, inr, _≢_}
 use mathlib.Core.Bool.{_&&_}
 use mathlib.Core.List.{List}
 use Prim.Native.Nat.{ℕ}
@@ -10,7 +10,7 @@ use Rattle.table.specs.Format.{actorsOf, countOf}
 use Rattle.table.specs.Decode.{actionOf}
 use Rattle.trace.specs.Machine.{Name}
 use Rattle.model.specs.Site.{Site, Actor, Mail}
-use Rattle.model.specs.Views.{Post, silent, notes, posts}
+use Rattle.model.specs.Views.{Post, posts}
 use Rattle.model.specs.Mail.{mailing}
 use Rattle.model.specs.Mutex.{queueing}
 use Rattle.lead.specs.Parts.{Unheard}

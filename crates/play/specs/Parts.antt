@@ -13,7 +13,7 @@ use Rattle.model.specs.Schedule.{machine, endState, RefusalNumbers, checkSchedu
 use Rattle.model.specs.Scheduler.{madeFrom}
 use Rattle.names.specs.InByte.{nameOf}
 use Rattle.state.specs.declared.Actor.{Actor}
-use Rattle.state.specs.State.{notedIn, siteOf, MailRoom, QueueRoom, JournalRoom, freshActor, EightCells}
+use Rattle.state.specs.State.{numberNoted, siteOf, MailRoom, QueueRoom, JournalRoom, freshActor, EightCells}
 use Rattle.answers.specs.Answers.{stopOf}
 use Rattle.policy.specs.Parts.{ruleOf, keptOf}
 use Rattle.policy.specs.declared.Policy.{Policy}
@@ -28,7 +28,7 @@ pub record Empty (comms log ends queues journal : List ℕ) : Type 0 where
   pub ends-fresh : ends ≡ replicate 32 0
   pub queues-fresh : queues ≡ replicate 72 0
   pub journal-long : length journal ≡ 257
-  pub journal-empty : notedIn journal ≡ 0
+  pub journal-empty : numberNoted journal ≡ 0
 
 -- an accepted table, arrays that hold a fresh site, and an array for the names
 pub record Fresh (table comms log ends queues journal names′ : List ℕ) : Type 0 where

@@ -1,7 +1,6 @@
 // The report's sections of the mailboxes and of the mutexes. Each writer puts its bytes at the front of the part that it is lent, and answers with
 // their number.
 ghost use mathlib.Core.Path.{_≡_};
-ghost use mathlib.Core.List.{[], _∷_};
 ghost use Prim.Native.Nat.{_+_, _-_, _*_, _<_, _≤_};
 ghost use lib.ListN.{length, take, drop};
 ghost use Rattle.model.specs.Report.{boxBytes, mutexBytes};

@@ -23,7 +23,6 @@ use Rattle.state.specs.State.{mailOf, queuesOf, freshActor, nextOf, seenFrom}
 use Rattle.readiness.specs.Parts.{siteWith, Known, stepFrom, looksReady, everyoneFinished}
 use Rattle.answers.specs.Answers.{endingAs, readinessOf}
 use Rattle.state.specs.declared.Actor.{Actor}
-use Rattle.answers.specs.declared.Ending.the-variants as case
 use Rattle.answers.specs.declared.Readiness.{Readiness}
 use Rattle.look.proofs.Sees.{step-parts}
 

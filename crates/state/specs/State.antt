@@ -62,11 +62,11 @@ abbrev pub entryOf : ℕ → Entry
 entryOf e = record { step = nameOf (e % 256); value = e / 256 }
 
 -- the journal has the number of its entries, then the entries
-abbrev pub notedIn : (journal : List ℕ) → ℕ
-notedIn journal = getD journal 0 0
+abbrev pub numberNoted : (journal : List ℕ) → ℕ
+numberNoted journal = getD journal 0 0
 
 abbrev pub journalOf : (journal : List ℕ) → List Entry
-journalOf journal = map entryOf (take (notedIn journal) (drop 1 journal))
+journalOf journal = map entryOf (take (numberNoted journal) (drop 1 journal))
 
 -- the actors' records
 abbrev pub freshActor : Actor
@@ -106,7 +106,7 @@ pub record QueueRoom (queues : List ℕ) : Type 0 where
 -- the journal's array has its length, and room for each action of the largest table
 pub record JournalRoom (journal : List ℕ) : Type 0 where
   pub long : length journal ≡ 257
-  pub bounded : notedIn journal ≤ 256
+  pub bounded : numberNoted journal ≤ 256
 
 -- each actor's position fits a byte
 abbrev pub Positions : List Actor → Type 0

@@ -1,6 +1,6 @@
 -- What one step leaves, by plain facts: the record after it, what it picks up, and what its action's range gives.
 -- Assumes nothing.
-use mathlib.Core.Path.{_≡_, refl, _∙_, ap, sym}
+use mathlib.Core.Path.{_≡_, _∙_, ap, sym}
 use mathlib.Core.List.{List}
 use Prim.Native.Nat.{ℕ, suc, _+_}
 use native.Mathlib.Numerals.{add-one}
@@ -11,7 +11,6 @@ use Rattle.model.proofs.ByKind.{Posting, quiet, sends-to, receives-from, locks,
 use Rattle.model.specs.Local.{Seen, seen, pickUpSeen, cellsAfter, local}
 use Rattle.state.specs.State.{recordOf}
 use Rattle.state.specs.declared.Actor.{Actor}
-use Rattle.look.specs.declared.Seen.the-variants as look
 
 -- the record after a step
 pub record-after : (own : ℕ → Action) (x : Action) (found : Seen) (r next : Actor) → next .position ≡ r .position + 1

@@ -17,7 +17,7 @@ use Rattle.model.specs.Mail.{mailing}
 use Rattle.model.specs.Journal.{noting}
 use Rattle.model.specs.Local as Local
 use Rattle.model.specs.Step.{taken, over, stepOf}
-use Rattle.state.specs.State.{recordOf, tailIn, mailOf, queuesOf, notedIn, journalOf, MailRoom, QueueRoom, JournalRoom, EightCells, seenFrom, nextOf, stepAs}
+use Rattle.state.specs.State.{recordOf, tailIn, mailOf, queuesOf, numberNoted, journalOf, MailRoom, QueueRoom, JournalRoom, EightCells, seenFrom, nextOf, stepAs}
 use Rattle.state.specs.declared.Actor.{Actor}
 use Rattle.step.specs.declared.Stepped.{Stepped}
 
@@ -33,7 +33,7 @@ pub record Steppable (table : List ℕ) (a : ℕ) (r : Actor) (comms log ends qu
   -- a step that is taken has room to post
   pub tail-room : stepOf table (seenFrom r (mailOf comms log ends) (queuesOf queues)) a (nextOf table a r) ≡ taken → (n : ℕ) → tailIn ends n < 256
   pub join-room : (m : ℕ) → length (join (queuesOf queues m) a) ≤ 8
-  pub note-room : (cell : ℕ) → nextOf table a r ≡ Note cell → notedIn journal < 256
+  pub note-room : (cell : ℕ) → nextOf table a r ≡ Note cell → numberNoted journal < 256
 
 -- where a step was taken, its record has this position and these cells
 abbrev pub After : Stepped → (position : ℕ) (cells : List ℕ) → Type 0

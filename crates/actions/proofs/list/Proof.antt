@@ -1,10 +1,9 @@
 -- `actions::list` meets its contract: each arm's action says what it lists, and an action of any other kind lists nothing.
 -- Assumes nothing.
 use Prim.Native.Nat.{ℕ}
-use mathlib.Core.Path.{_≡_, refl, _∙_, sym, ap}
+use mathlib.Core.Path.{_≡_, _∙_, sym, ap}
 use mathlib.Core.Logic.{_⊎_, inl, inr}
 use mathlib.Core.List.{[], _∷_}
-use lib.ListN.{take}
 use borrow.Author.Needs.{needs}
 use Rattle.table.specs.declared.Action.{Action}
 use Rattle.table.specs.declared.Action.the-variants.{TestAny, WaitAny, MutexTest, MutexWait}

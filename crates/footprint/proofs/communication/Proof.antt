@@ -1,6 +1,6 @@
 -- `footprint::communication` meets its contract: nothing at a place that the list lacks, and otherwise the listed action's marks.
 -- Assumes nothing.
-use mathlib.Core.Path.{_≡_, _∙_, ap, sym, subst}
+use mathlib.Core.Path.{_∙_, ap, sym, subst}
 use Rattle.table.specs.declared.Action.{Action}
 use Rattle.model.specs.Site.{name}
 use Rattle.model.specs.Views.{posts}

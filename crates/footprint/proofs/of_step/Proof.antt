@@ -1,6 +1,6 @@
 -- `footprint::of_step` meets its contract: the marks of what the step posts and of what it looks at.
 -- Assumes nothing.
-use mathlib.Core.Path.{_≡_, _∙_, ap, ap₂, sym, subst}
+use mathlib.Core.Path.{_∙_, ap, ap₂, sym, subst}
 use lib.Bits.{bitOr}
 use Rattle.table.specs.declared.Action.{Action}
 use Rattle.model.specs.Site.{name}

@@ -4,7 +4,7 @@ use mathlib.Core.List.{_++_}
 use Prim.Native.Nat.{ℕ, _+_}
 use borrow.Author.Needs.{needs}
 use Rattle.model.specs.Report.{word}
-use Rattle.state.specs.State.{notedIn}
+use Rattle.state.specs.State.{numberNoted}
 use Rattle.writing.specs.Written.{Wrote}
 use Rattle.writing.proofs.Written.{joined, wrote-then}
 use Rattle.journal.specs.Parts.{entriesBytes}
@@ -48,8 +48,8 @@ returns c =
     let t = c .before .before .before .before .before .before .two in
     let e = c .before .before .entries in
     let j = s .args .journal .now in
-    subst (λ (n : ℕ). Wrote (s .args .buf .now) (word n ++ entriesBytes j (notedIn j)) (joined (t .result) (t .last .1 .1 .0) (e .last .1 .1 .0)) (t .result + e .result)) (sym (counts j (s .pre .0)))
-    (wrote-then (s .args .buf .now) (word (notedIn j)) (t .last .1 .1 .0) (entriesBytes j (notedIn j)) (e .last .1 .1 .0) (t .result) (e .result) (t .ensures) (e .ensures))
+    subst (λ (n : ℕ). Wrote (s .args .buf .now) (word n ++ entriesBytes j (numberNoted j)) (joined (t .result) (t .last .1 .1 .0) (e .last .1 .1 .0)) (t .result + e .result)) (sym (counts j (s .pre .0)))
+    (wrote-then (s .args .buf .now) (word (numberNoted j)) (t .last .1 .1 .0) (entriesBytes j (numberNoted j)) (e .last .1 .1 .0) (t .result) (e .result) (t .ensures) (e .ensures))
 
 pub part-spec : {M : Type 1} → statement M
 part-spec =

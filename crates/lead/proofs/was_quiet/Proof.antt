@@ -1,6 +1,6 @@
 -- `lead::was_quiet` meets its contract: who waits, waits for what a Send, a Receive, a Lock or an Unlock posts.
 -- Assumes nothing.
-use mathlib.Core.Path.{_≡_, _∙_, ap, sym, subst}
+use mathlib.Core.Path.{_≡_, ap, subst}
 use mathlib.Core.Logic.{inl, inr}
 use mathlib.Core.Bool.{false, true, false≢true}
 use mathlib.Core.List.{[], _∷_}
