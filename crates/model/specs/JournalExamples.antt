@@ -48,7 +48,7 @@ kept =
 
 -- one actor with a Note, of which a byte is changed: the Note stands at offset 8
 abbrev pub noteWith : (place byte : ℕ) → List ℕ
-noteWith place byte = set (tableWith 0 0 ((note ∷ []) ∷ [])) (place) byte
+noteWith place byte = set (tableWith 0 0 ((note ∷ []) ∷ [])) place byte
 
 abbrev pub readings : List Claim
 readings =
