@@ -1,6 +1,6 @@
 -- `actions::target` meets its contract: an action of any other kind is on nothing.
 -- Assumes nothing.
-use mathlib.Core.Path.{_≡_, refl, sym, ap}
+use mathlib.Core.Path.{_≡_, sym, ap}
 use mathlib.Core.List.{[], _∷_}
 use borrow.Author.Needs.{needs}
 use Rattle.table.specs.declared.Action.{Action}
