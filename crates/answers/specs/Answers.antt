@@ -6,7 +6,7 @@ use Rattle.table.specs.Outcome.{Outcome, refused, numberOf, positionOf}
 use Rattle.table.specs.Answer.{outcome}
 use Rattle.model.specs.Schedule.{RefusalNumbers, firstNumbers, secondNumbers}
 use Rattle.model.specs.Ready as Model
-use Rattle.model.specs.Calls.{Result, gives, refuses, PairVerdict, independent, dependent, SameVerdict, same, different}
+use Rattle.model.specs.Calls.{Result, gives, refuses, PairVerdict, independent, dependent, same, different, Comparison}
 use Rattle.model.specs.Recordings as Recordings
 use Rattle.answers.specs.declared.Stop.{Stop}
 use Rattle.answers.specs.declared.Stop.the-variants.{Absent, Finished, Waiting, Over}
@@ -74,9 +74,9 @@ pairResult pair.Independent = gives independent
 pairResult pair.Dependent = gives dependent
 pairResult (pair.Refused r) = refusedBy r
 
-abbrev pub sameResult : SameAnswer → Result SameVerdict
-sameResult same-answer.Same = gives same
-sameResult same-answer.Different = gives different
+abbrev pub sameResult : SameAnswer → Result Comparison
+sameResult (same-answer.Same pairs) = gives (record { verdict = same; pairs = pairs })
+sameResult (same-answer.Different pairs) = gives (record { verdict = different; pairs = pairs })
 sameResult (same-answer.Refused r) = refusedBy r
 
 abbrev pub recordingOf : Recording → Recordings.Recording

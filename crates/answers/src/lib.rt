@@ -135,10 +135,11 @@ pub enum PairAnswer {
     Refused(Refusal),
 }
 
-// The answer of same and prefix: whether a chain of exchanges turns the first schedule, or its part, into the second.
+// The answer of same and prefix: whether a chain of exchanges turns the first schedule, or its part, into the second; and how many pairs of steps were
+// compared.
 pub enum SameAnswer {
-    Same,
-    Different,
+    Same(u32),
+    Different(u32),
     Refused(Refusal),
 }
 

@@ -6,7 +6,7 @@ use mathlib.Core.Path.{_≡_}
 use mathlib.Core.List.{List}
 use Rattle.table.specs.Outcome.{Outcome, numberOf, positionOf}
 use Rattle.model.specs.Ready.{Ending, finished, stuck, going, ReadyAnswer}
-use Rattle.model.specs.Calls.{Result, gives, refuses, PairVerdict, independent, dependent, SameVerdict, same, different}
+use Rattle.model.specs.Calls.{Result, gives, refuses, PairVerdict, independent, dependent, SameVerdict, same, different, Comparison}
 use Rattle.model.specs.Recordings.{Recording, theFirst, theSecond, Part}
 use Rattle.model.specs.Route.{RightRoute}
 use Rattle.c_answers.specs.declared.OrderCheck.{OrderCheck}
@@ -47,9 +47,9 @@ sameNumber different = 0
 sameNumber same = 1
 
 -- of same and prefix
-abbrev pub sameFields : Result SameVerdict → OrderSame
-sameFields (gives v) = record { refusal = 0; position = 0; verdict = sameNumber v }
-sameFields (refuses number position) = record { refusal = number; position = position; verdict = 0 }
+abbrev pub sameFields : Result Comparison → OrderSame
+sameFields (gives c) = record { refusal = 0; position = 0; verdict = sameNumber (c .verdict); pairs = c .pairs }
+sameFields (refuses number position) = record { refusal = number; position = position; verdict = 0; pairs = 0 }
 
 abbrev pub recordingNumber : Recording → ℕ
 recordingNumber theFirst = 1

@@ -134,32 +134,36 @@ pub fn pair(answer: PairAnswer) -> OrderPair
     }
 }
 
-// The refusal, or the verdict on two schedules: 0 different, 1 same.
+// The refusal, or the verdict on two schedules, 0 different, 1 same, and the number of pairs compared.
 #[repr(C)]
 pub struct OrderSame {
     pub refusal: u32,
     pub position: u32,
     pub verdict: u32,
+    pub pairs: u32,
 }
 
 pub fn same(answer: SameAnswer) -> OrderSame
     ensures { λ r. ⌜ r ≡ sameFields (sameResult answer) ⌝ }
 {
     match answer {
-        SameAnswer::Same => OrderSame {
+        SameAnswer::Same(pairs) => OrderSame {
             refusal: 0,
             position: 0,
             verdict: 1,
+            pairs,
         },
-        SameAnswer::Different => OrderSame {
+        SameAnswer::Different(pairs) => OrderSame {
             refusal: 0,
             position: 0,
             verdict: 0,
+            pairs,
         },
         SameAnswer::Refused(r) => OrderSame {
             refusal: r.number(),
             position: r.position(),
             verdict: 0,
+            pairs: 0,
         },
     }
 }

@@ -8,9 +8,10 @@ use native.Mathlib.Omega.{arith}
 use Rattle.table.specs.Outcome.{Outcome, accepted, refused, _⨾_}
 use Rattle.table.specs.Read.{readOf}
 use Rattle.trace.specs.Same.{equivalent}
+use Rattle.trace.specs.Search.{pairsCompared}
 use Rattle.model.specs.Site.{initial}
 use Rattle.model.specs.Schedule.{machine, firstNumbers, secondNumbers, checkSchedule}
-use Rattle.model.specs.Calls.{gives, refuses, answer, same as alike, different, sameChecks, sameOf}
+use Rattle.model.specs.Calls.{gives, refuses, answer, same as alike, different, sameChecks, comparisonOf}
 use Rattle.model.proofs.Checks.{then-both, answer-given}
 use Rattle.answers.specs.declared.SameAnswer.{SameAnswer}
 use Rattle.answers.specs.Answers.{sameResult}
@@ -23,11 +24,20 @@ refusal-gives e = let z : _≡_ {A = ℕ} 0 1 = cc in absurd (omega arith)
 module _ {table first second firstBytes secondBytes : List ℕ} where
   pub compared-refused : {r : SameAnswer} {n p : ℕ} → sameResult r ≡ refuses n p → sameChecks table first second ≡ refused n p
       → ComparedRight table first second firstBytes secondBytes r
-  unfolding sameOf
+  unfolding comparisonOf
   compared-refused {r} {n} {p} h e =
       record {
-        right = h ∙ sym (ap (λ (o : Outcome). answer o (cond (equivalent (machine table) initial first second) alike different)) e);
-        kept = λ s. refusal-gives (sym (ap sameResult s) ∙ h);
+        right =
+            h
+            ∙ sym
+            (ap
+            (λ (o : Outcome).
+            answer o (record {
+              verdict = cond (equivalent (machine table) initial first second) alike different;
+              pairs = pairsCompared (machine table) initial first second;
+            }))
+            e);
+        kept = λ n s. refusal-gives (sym (ap sameResult s) ∙ h);
       }
 
   -- the first schedule is refused
@@ -47,16 +57,16 @@ module _ {table first second firstBytes secondBytes : List ℕ} where
       (then-accepted (readOf table) (checkSchedule firstNumbers table first ⨾ checkSchedule secondNumbers table second) read
       ∙ then-accepted (checkSchedule firstNumbers table first) (checkSchedule secondNumbers table second) fine ∙ e)
 
-  -- both are accepted, and the verdict is the trace theory's
-  pub judged : {r : SameAnswer} (b : Bool) → Judged table first second firstBytes secondBytes → equivalent (machine table) initial first second ≡ b
-      → sameResult r ≡ gives (cond b alike different) → ComparedRight table first second firstBytes secondBytes r
-  unfolding sameOf
-  judged b J e h =
+  -- both are accepted, and the verdict and its number are the trace theory's
+  pub judged : {r : SameAnswer} (b : Bool) (n : ℕ) → Judged table first second firstBytes secondBytes → equivalent (machine table) initial first second ≡ b
+      → pairsCompared (machine table) initial first second ≡ n → sameResult r ≡ gives (record { verdict = cond b alike different; pairs = n })
+      → ComparedRight table first second firstBytes secondBytes r
+  unfolding comparisonOf
+  judged b n J e k h =
       record {
         right =
             h
-            ∙ sym (answer-given (sameChecks table first second) (cond (equivalent (machine table) initial first second) alike different)
-            (then-both (J .read) (then-both (J .first-fine) (J .second-fine)))
-            ∙ ap (λ (v : Bool). gives (cond v alike different)) e);
-        kept = λ s. (J .first-kept, J .second-kept);
+            ∙ sym (answer-given (sameChecks table first second) _ (then-both (J .read) (then-both (J .first-fine) (J .second-fine)))
+            ∙ (λ i. gives (record { verdict = cond (e i) alike different; pairs = k i })));
+        kept = λ n s. (J .first-kept, J .second-kept);
       }

@@ -4,7 +4,7 @@ use Prim.Native.Nat.{ℕ, _≤_, _<_}
 use native.Mathlib.Omega.{arith}
 use mathlib.Core.Path.{_≡_, _∙_, ap, sym, subst}
 use mathlib.Core.Logic.{_⊎_, inl, inr}
-use mathlib.Core.Bool.{Bool, true, false, not, _&&_}
+use mathlib.Core.Bool.{Bool, true, false, not, _&&_, cond}
 use mathlib.Core.List.{List}
 use borrow.Author.Tests.{eq-eqb, ne-eqb}
 use lib.ListN.{length, getD, take, List·getD-map}
@@ -13,10 +13,11 @@ use Rattle.table.specs.Promise.{WellFormed}
 use Rattle.trace.specs.Machine.{Name}
 use Rattle.trace.specs.Schedule.{accepted, names}
 use Rattle.trace.specs.Order.{within, Distinct}
-use Rattle.trace.specs.Same.{equivalent, reorders}
+use Rattle.trace.specs.Same.{sameSteps, equivalent, reorders}
+use Rattle.trace.specs.Search.{comparedIn, search, opposed, pairsCompared}
 use Rattle.trace.specs.Route.{route, routeFrom}
 use Rattle.trace.proofs.Bools.{which}
-use Rattle.trace.proofs.Run.{names-distinct}
+use Rattle.trace.proofs.Run.{names-distinct, names-length}
 use Rattle.trace.proofs.SameChained.{one-way}
 use Rattle.trace.proofs.Verdict.{SameParts, same-parts}
 use Rattle.model.specs.Site.{name, initial}
@@ -32,7 +33,9 @@ use Rattle.names.specs.InByte.{nameOf}
 use Rattle.names.specs.Names.{namesIn}
 use Rattle.names.specs.Steps.{Stands}
 use Rattle.names.proofs.Steps.{in-table}
+use Rattle.equivalence.specs.declared.Comparison.{Comparison}
 use Rattle.equivalence.specs.Compared.{Compared}
+use Rattle.equivalence.specs.Judged.{Judges}
 use Rattle.routing.specs.Routable.{Routable}
 use Rattle.comparison.specs.Traces.{Kept}
 use Rattle.trace.proofs.OwnOrder.{one-order}
@@ -58,6 +61,11 @@ pub lengths-apart : (table first second : List ℕ) → (length first ≡ length
 unfolding equivalent
 lengths-apart table first second h = rw (ne-eqb (length first) (length second) h)
 
+-- and none of their pairs is compared
+pub none-compared : (table first second : List ℕ) → (length first ≡ length second → ⊥) → pairsCompared (machine table) initial first second ≡ 0
+unfolding pairsCompared
+none-compared table first second h = rw (ne-eqb (length first) (length second) h)
+
 module _ (table first second firstBytes secondBytes : List ℕ) (first-fine : accepted (machine table) initial first ≡ true)
     (second-fine : accepted (machine table) initial second ≡ true) (K : Kept table first firstBytes) (J : Kept table second secondBytes)
     (long : length first ≡ length second) where
@@ -77,29 +85,40 @@ module _ (table first second firstBytes secondBytes : List ℕ) (first-fine : ac
         own-order = λ x y e b. rw second-names (one-order (laws table) initial first second (inv-initial table) first-fine second-fine x y e (rw (K .names-right) at b));
       }
 
-  -- of schedules of one length, the verdict is whether the first's names are the second's, and no dependent pair is in opposite orders
-  by-names : equivalent (machine table) initial first second
-      ≡ (within (names (machine table) initial first) (names (machine table) initial second)
-      && not (reorders (depends table) (names (machine table) initial first) (names (machine table) initial second)))
-  unfolding equivalent
+  -- schedules of one length run the same steps where the second has the first's names
+  by-names : sameSteps (machine table) initial first second ≡ within (names (machine table) initial first) (names (machine table) initial second)
   by-names = go (which (within (names (machine table) initial first) (names (machine table) initial second)))
     where
       go : (within (names (machine table) initial first) (names (machine table) initial second) ≡ true)
           ⊎ (within (names (machine table) initial first) (names (machine table) initial second) ≡ false)
-          → equivalent (machine table) initial first second
-          ≡ (within (names (machine table) initial first) (names (machine table) initial second)
-          && not (reorders (depends table) (names (machine table) initial first) (names (machine table) initial second)))
+          → sameSteps (machine table) initial first second ≡ within (names (machine table) initial first) (names (machine table) initial second)
       go (inl w) =
           let back : within (names (machine table) initial second) (names (machine table) initial first) ≡ true =
           one-way (laws table) initial (inv-initial table) first second first-fine long w in
           rw (eq-eqb (length first) (length second) long, w, back)
       go (inr w) = rw (eq-eqb (length first) (length second) long, w)
 
-  pub verdict : (r : Bool)
-      → r ≡ (within (namesIn (length first) firstBytes) (namesIn (length first) secondBytes)
-      && not (reorders (depends table) (namesIn (length first) firstBytes) (namesIn (length first) secondBytes)))
-      → equivalent (machine table) initial first second ≡ r
-  verdict r e = by-names ∙ sym (rw (K .names-right, second-names) at e)
+  module _ (r : Comparison)
+      (judges : Judges (depends table) (namesIn (length first) firstBytes) (namesIn (length first) secondBytes) r) where
+    by-schedules : Judges (depends table) (names (machine table) initial first) (names (machine table) initial second) r
+    by-schedules = rw (K .names-right, second-names) at judges
+
+    pub verdict : equivalent (machine table) initial first second ≡ r .same
+    unfolding equivalent
+    verdict =
+        ap (λ (b : Bool). b && not (reorders (depends table) (names (machine table) initial first) (names (machine table) initial second))) by-names
+        ∙ sym (by-schedules .verdict)
+
+    pub number : pairsCompared (machine table) initial first second ≡ r .pairs
+    unfolding pairsCompared
+    number =
+        (λ k.
+        cond (by-names k)
+        (comparedIn
+        (search (opposed (depends table) (names (machine table) initial first) (names (machine table) initial second))
+        (sym (names-length (machine table) initial first) k)))
+        0)
+        ∙ sym (by-schedules .counted)
 
   -- the route by names is the schedules' route
   pub route-names : routeFrom 0 (namesIn (length first) firstBytes) (namesIn (length first) secondBytes) ≡ route (machine table) initial first second

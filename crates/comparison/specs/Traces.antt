@@ -10,7 +10,7 @@ use Rattle.table.specs.Promise.{WellFormed}
 use Rattle.trace.specs.Schedule.{names}
 use Rattle.model.specs.Site.{initial}
 use Rattle.model.specs.Schedule.{machine, RefusalNumbers, firstNumbers, secondNumbers, checkSchedule}
-use Rattle.model.specs.Calls.{sameOf}
+use Rattle.model.specs.Calls.{comparisonOf}
 use Rattle.play.specs.Parts.{haltOf}
 use Rattle.play.specs.declared.Halt.{Halt}
 use Rattle.play.specs.declared.Halt.the-variants.{End}
@@ -56,5 +56,5 @@ pub record Judged (table first second firstBytes secondBytes : List ℕ) : Type 
 
 -- the answer is the outcome of `same`, and where it is "same" both schedules' names are kept
 pub record ComparedRight (table first second firstBytes secondBytes : List ℕ) (r : SameAnswer) : Type 0 where
-  pub right : sameResult r ≡ sameOf table first second
-  pub kept : r ≡ same.Same → Kept table first firstBytes × Kept table second secondBytes
+  pub right : sameResult r ≡ comparisonOf table first second
+  pub kept : (pairs : ℕ) → r ≡ same.Same pairs → Kept table first firstBytes × Kept table second secondBytes

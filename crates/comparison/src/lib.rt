@@ -53,7 +53,7 @@ fn follow(
     }
 }
 
-// The verdict on two accepted schedules, by their lengths and the names of their steps.
+// The verdict on two accepted schedules, by their lengths and the names of their steps, and how many pairs of these were compared.
 fn judge(
     table: &[u8],
     first: &[u8],
@@ -66,13 +66,13 @@ fn judge(
 {
     let m = first.len();
     if m != second.len() {
-        return SameAnswer::Different;
+        return SameAnswer::Different(0);
     }
-    if equivalence::same(table, names, others, m) {
-        SameAnswer::Same
-    } else {
-        SameAnswer::Different
+    let comparison = equivalence::same(table, names, others, m);
+    if comparison.same {
+        return SameAnswer::Same(comparison.pairs);
     }
+    SameAnswer::Different(comparison.pairs)
 }
 
 // Steps a schedule from a fresh site, as far as the first entry that is refused. `names` is left with the names of its steps, where it is accepted.

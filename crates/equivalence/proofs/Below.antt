@@ -3,9 +3,9 @@
 use Prim.Native.Nat.{ℕ, zero, suc, _<_}
 use native.Mathlib.Nat.{le-of-suc-le-suc, not-suc-le-zero, eq-or-lt-of-le}
 use native.Mathlib.Omega.{arith}
-use mathlib.Core.Path.{_≡_, refl}
+use mathlib.Core.Path.{_≡_, refl, _∙_, ap}
 use mathlib.Core.Logic.{_⊎_, inl, inr}
-use mathlib.Core.Bool.{Bool, true, false, _||_, false≢true}
+use mathlib.Core.Bool.{Bool, true, false, _&&_, _||_, false≢true}
 use Rattle.trace.proofs.Bools.{contrary, is-false, or-left, or-right, or-cases}
 use Rattle.equivalence.specs.Parts.{someBelow}
 
@@ -39,3 +39,23 @@ below-alike f g (suc n) alike =
     let before : someBelow f n ≡ someBelow g n = below-alike f g n (λ i h. alike i (omega arith)) in
     let here : f n ≡ g n = alike n (omega arith) in
     λ k. before k || here k
+
+-- one of two tests
+pub below-either : (f g : ℕ → Bool) (n : ℕ) → someBelow (λ i. f i || g i) n ≡ (someBelow f n || someBelow g n)
+below-either f g zero = refl
+below-either f g (suc n) =
+    ap (λ (b : Bool). b || (f n || g n)) (below-either f g n) ∙ crosswise (someBelow f n) (someBelow g n) (f n) (g n)
+  where
+    crosswise : (a b c d : Bool) → ((a || b) || (c || d)) ≡ ((a || c) || (b || d))
+    crosswise true b c d = refl
+    crosswise false true true d = refl
+    crosswise false true false d = refl
+    crosswise false false c d = refl
+
+-- what two tests share
+pub shared-out : (a b t : Bool) → ((a && t) || (b && t)) ≡ ((a || b) && t)
+shared-out true true true = refl
+shared-out true false true = refl
+shared-out true true false = refl
+shared-out true false false = refl
+shared-out false b t = refl

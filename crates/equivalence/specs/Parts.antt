@@ -1,14 +1,17 @@
 -- What the functions of the same verdict promise one another.
 -- Assumes nothing: these are definitions.
-use Prim.Native.Nat.{ℕ, zero, suc, _<_}
+use Prim.Native.Nat.{ℕ, zero, suc, _<_, _≤_}
 use mathlib.Core.Path.{_≡_}
 use mathlib.Core.Bool.{Bool, true, false, not, _&&_, _||_, cond}
 use mathlib.Core.List.{List}
-use lib.Bits.{bitAnd}
 use lib.Dec.{eqb, ltb}
 use lib.ListN.{length, getD}
+use Rattle.table.specs.Promise.{WellFormed}
+use Rattle.trace.specs.Search.{Search, comparedIn, hasEnded, search}
+use Rattle.model.specs.Pair.{depends}
 use Rattle.names.specs.InByte.{nameOf}
-use Rattle.footprint.specs.Marks.{marksOf, meetsOf}
+use Rattle.names.specs.Steps.{Stands}
+use Rattle.equivalence.specs.declared.Comparison.{Comparison}
 
 -- some number below n passes the test
 abbrev pub someBelow : (ℕ → Bool) → ℕ → Bool
@@ -35,16 +38,31 @@ pub record Located (first index : List ℕ) (m : ℕ) (places : List ℕ) (r : B
   pub verdict : r ≡ not (someBelow (absent first index) m)
   pub placed : r ≡ true → (i : ℕ) → i < m → getD places i 0 ≡ getD index (getD first i 0) 0
 
--- step i has a later place than the one given, and a mark that is met
-abbrev pub crosses : (places marks : List ℕ) → (place meets i : ℕ) → Bool
-crosses places marks place meets i = ltb place (getD places i 0) && not (eqb (bitAnd (getD marks i 0) meets) 0)
+-- the steps i and j of the first list are dependent, and have places in the opposite order
+abbrev pub crosses : (table first places : List ℕ) → (i j : ℕ) → Bool
+crosses table first places i j =
+    ltb (getD places j 0) (getD places i 0) && depends table (nameOf (getD first i 0)) (nameOf (getD first j 0))
 
--- the same of the steps i and j of the first list, from the table
-abbrev pub crossesAt : (table first places : List ℕ) → (j i : ℕ) → Bool
-crossesAt table first places j i =
-    ltb (getD places j 0) (getD places i 0)
-    && not (eqb (bitAnd (marksOf table (nameOf (getD first i 0))) (meetsOf table (nameOf (getD first j 0)))) 0)
+-- the search through all pairs of the first m steps
+abbrev pub searchOf : (table first places : List ℕ) → ℕ → Search
+searchOf table first places m = search (crosses table first places) m
 
--- some two of the first m steps, one before the other, do so
-abbrev pub crossed : (table first places : List ℕ) → ℕ → Bool
-crossed table first places m = someBelow (λ j. someBelow (crossesAt table first places j) j) m
+-- what the search may rely on: m steps of the table with their places, and those of one actor have rising ones
+pub record Placed (table first places : List ℕ) (m : ℕ) : Type 0 where
+  pub accepted : WellFormed table
+  pub first-long : length first ≡ 256
+  pub places-long : length places ≡ 256
+  pub most : m ≤ 256
+  pub stand : (i : ℕ) → i < m → Stands table (nameOf (getD first i 0))
+  pub own-order : (i j : ℕ) → i < j → j < m → nameOf (getD first i 0) .actor ≡ nameOf (getD first j 0) .actor → getD places i 0 ≤ getD places j 0
+
+-- the first number below n that passes the test; n where none does
+pub record FirstOf (f : ℕ → Bool) (n r : ℕ) : Type 0 where
+  pub most : r ≤ n
+  pub passes : r < n → f r ≡ true
+  pub none-before : (k : ℕ) → k < r → f k ≡ false
+
+-- a verdict and its number, as a search has them
+pub record Found (s : Search) (r : Comparison) : Type 0 where
+  pub verdict : r .same ≡ not (hasEnded s)
+  pub counted : r .pairs ≡ comparedIn s

@@ -1,8 +1,8 @@
 -- The proofs of this crate that belong to no one function.
-pub mod MarkBits
-pub mod MarkGroups
-pub mod MarkPosts
-pub mod MarkLooks
-pub mod MarkPlaces
-pub mod MarkRanges
-pub mod MarksMeet
+pub mod Groups
+pub mod Clash
+pub mod ClashDepends
+pub mod Ranges
+pub mod Raised
+pub mod Lists
+pub mod Passes

@@ -1,2 +1,3 @@
--- What a footprint is.
-pub mod Marks
+-- What a footprint is, and the latest places by it.
+pub mod Resources
+pub mod Latest

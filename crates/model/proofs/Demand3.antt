@@ -44,6 +44,10 @@ judged-independent : (b : Bool) → cond b dependent independent ≡ independent
 judged-independent true h = let z : _≡_ {A = ℕ} 0 1 = cc in absurd (omega arith)
 judged-independent false h = refl
 
+pub judged-dependent : (b : Bool) → cond b dependent independent ≡ dependent → b ≡ true
+judged-dependent true h = refl
+judged-dependent false h = let z : _≡_ {A = ℕ} 0 1 = cc in absurd (omega arith)
+
 judged-same : (b : Bool) → cond b same different ≡ same → b ≡ true
 judged-same true h = refl
 judged-same false h = let z : _≡_ {A = ℕ} 0 1 = cc in absurd (omega arith)
@@ -115,12 +119,14 @@ module _ (table : List ℕ) (read : readOf table ≡ accepted) where
 
   -- ---- same
 
+  pub checks-both : (p q : List ℕ) → Accepted table p → Accepted table q → sameChecks table p q ≡ accepted
+  checks-both p q hp hq =
+      then-both read (then-both (taken-checks table firstNumbers initial 0 p hp) (taken-checks table secondNumbers initial 0 q hq))
+
   pub same-given : (p q : List ℕ) → Accepted table p → Accepted table q
       → sameOf table p q ≡ gives (cond (equivalent (machine table) initial p q) same different)
   unfolding sameOf
-  same-given p q hp hq =
-      answer-given (sameChecks table p q) _
-      (then-both read (then-both (taken-checks table firstNumbers initial 0 p hp) (taken-checks table secondNumbers initial 0 q hq)))
+  same-given p q hp hq = answer-given (sameChecks table p q) _ (checks-both p q hp hq)
 
   same-iff : (p q : List ℕ) → Accepted table p → Accepted table q → (sameOf table p q ≡ gives same) ↔ Chained (machine table) initial p q
   same-iff p q hp hq = (chained, given)
@@ -155,7 +161,7 @@ module _ (table : List ℕ) (read : readOf table ≡ accepted) where
 
   -- ---- pair
 
-  pair-given : (x y : Name) → inTable table x ≡ true → inTable table y ≡ true → pairOf table x y ≡ gives (cond (depends table x y) dependent independent)
+  pub pair-given : (x y : Name) → inTable table x ≡ true → inTable table y ≡ true → pairOf table x y ≡ gives (cond (depends table x y) dependent independent)
   unfolding pairOf
   pair-given x y hx hy = answer-given (readOf table ⨾ demand (inTable table x && inTable table y) 17 0) _ (then-both read (demand-met 17 0 (both hx hy)))
 

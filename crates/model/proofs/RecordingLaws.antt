@@ -19,10 +19,10 @@ use Rattle.trace.proofs.Bools.{which}
 use Rattle.trace.proofs.Run.{final-append, accepted-append, accepted-after}
 use Rattle.model.specs.Site.{Site, initial}
 use Rattle.model.specs.Schedule.{machine, endState, checkFrom}
-use Rattle.model.specs.Calls.{gives, SameVerdict, same, different, sameOf}
+use Rattle.model.specs.Calls.{gives, SameVerdict, same, different, sameOf, comparisonOf}
 use Rattle.model.specs.Demand3.{Accepted}
 use Rattle.model.specs.Over.{GoOnAlike}
-use Rattle.model.specs.Recordings.{held, prefixOf, theFirst, theSecond, choose, Part, remainderOf, Slice, remainderIn}
+use Rattle.model.specs.Recordings.{held, prefixOf, prefixComparisonOf, theFirst, theSecond, choose, Part, remainderOf, Slice, remainderIn}
 use Rattle.model.specs.RecordingLaws.{left, longer, shorter, remainder, Split, Continues, EveryRecording}
 use Rattle.model.proofs.Checks.{checks-after}
 use Rattle.model.proofs.Demand3.{same-given, demand-3}
@@ -79,13 +79,22 @@ module _ (table : List ℕ) where
   -- ---- what the verdict looks at
 
   -- of the shorter all
-  pub first-whole : (p q : List ℕ) → length p ≤ length q → prefixOf table p q ≡ sameOf table p (take (length p) q)
+  first-whole : (p q : List ℕ) → length p ≤ length q → prefixOf table p q ≡ sameOf table p (take (length p) q)
   unfolding prefixOf
   first-whole p q l = ap (λ (r : List ℕ). sameOf table r (take (length p) q)) (take-all (length q) p l)
 
-  pub second-whole : (p q : List ℕ) → length q ≤ length p → prefixOf table p q ≡ sameOf table (take (length q) p) q
+  second-whole : (p q : List ℕ) → length q ≤ length p → prefixOf table p q ≡ sameOf table (take (length q) p) q
   unfolding prefixOf
   second-whole p q l = ap (sameOf table (take (length q) p)) (take-all (length p) q l)
+
+  -- and so of the number that comes with it
+  pub first-compared : (p q : List ℕ) → length p ≤ length q → prefixComparisonOf table p q ≡ comparisonOf table p (take (length p) q)
+  unfolding prefixComparisonOf
+  first-compared p q l = ap (λ (r : List ℕ). comparisonOf table r (take (length p) q)) (take-all (length q) p l)
+
+  pub second-compared : (p q : List ℕ) → length q ≤ length p → prefixComparisonOf table p q ≡ comparisonOf table (take (length q) p) q
+  unfolding prefixComparisonOf
+  second-compared p q l = ap (comparisonOf table (take (length q) p)) (take-all (length p) q l)
 
   unseen-first : (p q more : List ℕ) → length p ≡ length q → prefixOf table (p ++ more) q ≡ sameOf table p q
   unseen-first p q more e =

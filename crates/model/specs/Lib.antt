@@ -32,6 +32,7 @@ pub mod Journaled
 pub mod PageShape
 pub mod Over
 pub mod RecordingLaws
+pub mod Comparisons
 pub mod Scheduled
 pub mod Drawn
 pub mod Claims

@@ -3,8 +3,8 @@ ghost use mathlib.Core.Path.{_≡_};
 ghost use lib.ListN.{length};
 ghost use Rattle.table.specs.Read.{readOf};
 ghost use Rattle.model.specs.Site.{name};
-ghost use Rattle.model.specs.Calls.{runOf, readyOf, pairOf, sameOf};
-ghost use Rattle.model.specs.Recordings.{prefixOf, remainderOf};
+ghost use Rattle.model.specs.Calls.{runOf, readyOf, pairOf, comparisonOf};
+ghost use Rattle.model.specs.Recordings.{prefixComparisonOf, remainderOf};
 ghost use Rattle.model.specs.Page.{pageOf};
 ghost use Rattle.model.specs.Draw.{drawOf};
 ghost use Rattle.c_answers.specs.Fields.{checkFields, lengthFields, readyFields, pairFields, sameFields, remainderFields, RightFields};
@@ -63,18 +63,18 @@ pub extern "C" fn order_pair(
     c_answers::pair(order::pair(table, actor, action, actor2, action2))
 }
 
-// Whether two schedules are the same.
+// Whether two schedules are the same, and how many pairs of steps were compared.
 #[no_mangle]
 pub extern "C" fn order_same(table: &[u8], first: &[u8], second: &[u8]) -> OrderSame
-    ensures { λ r. ⌜ r ≡ sameFields (sameOf (now (table .entry)) (now (first .entry)) (now (second .entry))) ⌝ }
+    ensures { λ r. ⌜ r ≡ sameFields (comparisonOf (now (table .entry)) (now (first .entry)) (now (second .entry))) ⌝ }
 {
     c_answers::same(order::same(table, first, second))
 }
 
-// Whether two recordings are the same as far as both reach.
+// Whether two recordings are the same as far as both reach, and how many pairs of those steps were compared.
 #[no_mangle]
 pub extern "C" fn order_prefix(table: &[u8], first: &[u8], second: &[u8]) -> OrderSame
-    ensures { λ r. ⌜ r ≡ sameFields (prefixOf (now (table .entry)) (now (first .entry)) (now (second .entry))) ⌝ }
+    ensures { λ r. ⌜ r ≡ sameFields (prefixComparisonOf (now (table .entry)) (now (first .entry)) (now (second .entry))) ⌝ }
 {
     c_answers::same(order::prefix(table, first, second))
 }

@@ -21,9 +21,14 @@ use Rattle.model.specs.Site.{initial}
 use Rattle.model.specs.Schedule.{machine, firstNumbers, secondNumbers, checkSchedule}
 use Rattle.model.specs.Calls.{Result, gives, refuses, answer, SameVerdict, same as alike, different, sameChecks, sameOf}
 use Rattle.model.specs.Route.{mostExchanges, routeChecks, RouteWritten, RightAnswer, RightRoute}
+use Rattle.model.specs.Comparisons.{verdictIn}
+use Rattle.model.proofs.Comparisons.{verdicts}
 use Rattle.model.proofs.Checks.{checks-taken, given-accepted, gives-injective, answer-given}
 use Rattle.model.proofs.Demand3.{site-theorems}
 use Rattle.model.proofs.Routes.{route-written}
+use Rattle.answers.specs.declared.SameAnswer.{SameAnswer}
+use Rattle.answers.specs.Answers.{sameResult}
+use Rattle.comparison.specs.Traces.{ComparedRight}
 
 -- a refused answer is the checks' refusal
 refused-checks : {A : Type 0} (o : Outcome) (a : A) (n p : ℕ) → answer o a ≡ refuses n p → o ≡ refused n p
@@ -47,6 +52,12 @@ module _ (table first second before after : List ℕ) where
   right : (o : Outcome) (result : Result ℕ) → routeChecks table first second before ≡ o → RightAnswer o table first second before after result
       → RightRoute table first second before after result
   right o result e h = subst (λ (x : Outcome). RightAnswer x table first second before after result) (sym e) h
+
+-- the verdict in the answer is that of the call same
+pub verdict-of : {table first second firstBytes secondBytes : List ℕ} {r s : SameAnswer} → r ≡ s
+    → ComparedRight table first second firstBytes secondBytes r → verdictIn (sameResult s) ≡ sameOf table first second
+verdict-of {table} {first} {second} e c =
+    ap (λ (a : SameAnswer). verdictIn (sameResult a)) (sym e) ∙ ap verdictIn (c .right) ∙ verdicts table first second
 
 module _ (table first second : List ℕ) where
   same-accepted : (v : SameVerdict) → gives v ≡ sameOf table first second → sameChecks table first second ≡ accepted

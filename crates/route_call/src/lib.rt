@@ -15,7 +15,7 @@ pub fn route(table: &[u8], first: &[u8], second: &[u8], route: &mut [u16]) -> Le
     let mut others = [0u8; 256];
     let answer = comparison::compared(table, first, second, &mut names, &mut others);
     match answer {
-        SameAnswer::Same => {
+        SameAnswer::Same(_) => {
             let m = first.len();
             if route.len() < most_exchanges(m) {
                 return LengthAnswer::Refused(Refusal::RouteRoom);
@@ -23,7 +23,7 @@ pub fn route(table: &[u8], first: &[u8], second: &[u8], route: &mut [u16]) -> Le
             let n = routing::route(&names, &others, m, route);
             LengthAnswer::Length(n as u32)
         }
-        SameAnswer::Different => LengthAnswer::Refused(Refusal::Different),
+        SameAnswer::Different(_) => LengthAnswer::Refused(Refusal::Different),
         SameAnswer::Refused(refusal) => LengthAnswer::Refused(refusal),
     }
 }

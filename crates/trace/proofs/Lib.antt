@@ -16,4 +16,6 @@ pub mod SameChained
 pub mod Count
 pub mod Inversions
 pub mod Theorems
+pub mod Triangle
+pub mod Searched
 pub mod Places

@@ -1,11 +1,11 @@
--- Order by places: `before` as a comparison of two places, and `reorders` as a test of the pairs of entries i < j.
+-- Order by places: `before` as a comparison of two places, and `reorders` as a search through the pairs of entries i < j.
 -- Assumes nothing.
 use Prim.Native.Nat.{ℕ, zero, suc, _<_}
 use native.Mathlib.Nat.{le-of-suc-le-suc, not-suc-le-zero}
 use native.Mathlib.Omega.{arith}
-use mathlib.Core.Path.{_≡_, sym, _∙_}
+use mathlib.Core.Path.{_≡_, sym, _∙_, ap}
 use mathlib.Core.Logic.{_⊎_, inl, inr}
-use mathlib.Core.Bool.{Bool, true, false, _&&_, false≢true}
+use mathlib.Core.Bool.{Bool, true, false, false≢true}
 use mathlib.Core.List.{List, [], _∷_}
 use borrow.Author.Tests.{lt-ltb, le-ltb}
 use lib.Dec.{ltb, leb·suc-suc}
@@ -14,9 +14,11 @@ use Rattle.trace.specs.Machine.{Name}
 use Rattle.trace.specs.Order.{eqName, mem, before, Distinct}
 use Rattle.trace.specs.Same.{reorders}
 use Rattle.trace.specs.Route.{place}
+use Rattle.trace.specs.Search.{hasEnded, search, unnamed, entry, opposed}
 use Rattle.trace.proofs.Bools.{which, contrary, is-false, both, and-left, and-right}
 use Rattle.trace.proofs.Names.{eqName-true, mem-head, mem-tail, mem-cases, before-head, before-tail, before-cases, before-absent}
 use Rattle.trace.proofs.Reorders.{Reordered, reorders-of, reorders-some}
+use Rattle.trace.proofs.Searched.{NoneBefore, Ends, search-none, search-ends, search-cases}
 
 -- ---- in a list that holds no name twice, the name at the lower place stands before the other
 
@@ -72,26 +74,32 @@ at-before d x y (z ∷ u) b = go (before-cases x y z u b) (at-before d x y u)
     go (inl e) rest = let r = at-mem d y u (e .1) in (zero, suc (r .0), omega arith, omega (arith, r .1), sym (e .0), r .2)
     go (inr n) rest = let r = rest n in (suc (r .0), suc (r .1), omega (arith, r .2), omega (arith, r .3), r .4, r .5)
 
-module _ (dep : Name → Name → Bool) (d : Name) (u v : List Name) where
-  -- the entries i and j of the first list are dependent, and the second holds them in the opposite order
-  abbrev pub opposed : ℕ → ℕ → Bool
-  opposed i j = dep (getD u i d) (getD u j d) && before (getD u j d) (getD u i d) v
-
-  pub opposed-reorders : (i j : ℕ) → i < j → j < length u → opposed i j ≡ true → reorders dep u v ≡ true
+module _ (dep : Name → Name → Bool) (u v : List Name) where
+  opposed-reorders : (i j : ℕ) → i < j → j < length u → opposed dep u v i j ≡ true → reorders dep u v ≡ true
   opposed-reorders i j h l o =
       reorders-of dep v u (record {
-        x = getD u i d;
-        y = getD u j d;
-        first = before-at d u i j h l;
-        dependent = and-left (dep (getD u i d) (getD u j d)) (before (getD u j d) (getD u i d) v) o;
-        second = and-right (dep (getD u i d) (getD u j d)) (before (getD u j d) (getD u i d) v) o;
+        x = entry u i;
+        y = entry u j;
+        first = before-at unnamed u i j h l;
+        dependent = and-left (dep (entry u i) (entry u j)) (before (entry u j) (entry u i) v) o;
+        second = and-right (dep (entry u i) (entry u j)) (before (entry u j) (entry u i) v) o;
       })
 
-  pub none-opposed : ((i j : ℕ) → i < j → j < length u → opposed i j ≡ false) → reorders dep u v ≡ false
+  none-opposed : NoneBefore (opposed dep u v) (length u) → reorders dep u v ≡ false
   none-opposed none = is-false _ (λ h. found (reorders-some dep v u h))
     where
       found : Reordered dep u v → ⊥
       found r =
-          let a = at-before d (r .x) (r .y) u (r .first) in
-          let o : opposed (a .0) (a .1) ≡ true = rw (a .4, a .5) (both (r .dependent) (r .second)) in
-          contrary o (none (a .0) (a .1) (a .2) (a .3))
+          let a = at-before unnamed (r .x) (r .y) u (r .first) in
+          let o : opposed dep u v (a .0) (a .1) ≡ true = rw (a .4, a .5) (both (r .dependent) (r .second)) in
+          contrary o (none (a .1) (a .3) (a .0) (a .2))
+
+  -- the search ends exactly where a pair is reordered
+  pub search-reorders : hasEnded (search (opposed dep u v) (length u)) ≡ reorders dep u v
+  search-reorders = go (search-cases (opposed dep u v) (length u))
+    where
+      go : Ends (opposed dep u v) (length u) ⊎ NoneBefore (opposed dep u v) (length u) → hasEnded (search (opposed dep u v) (length u)) ≡ reorders dep u v
+      go (inl e) =
+          ap hasEnded (search-ends (opposed dep u v) (length u) e)
+          ∙ sym (opposed-reorders (e .earlier .at) (e .later) (e .earlier .below) (e .later-below) (e .earlier .passes))
+      go (inr none) = ap hasEnded (search-none (opposed dep u v) (length u) none) ∙ sym (none-opposed none)

@@ -5,5 +5,6 @@ pub mod Order
 pub mod Inversions
 pub mod Chain
 pub mod Same
+pub mod Search
 pub mod Route
 pub mod Theorems

@@ -14,8 +14,10 @@ abbrev pub reorders : (Name → Name → Bool) → List Name → List Name → B
 reorders dep [] v = false
 reorders dep (x ∷ u) v = any (λ y. dep x y && before y x v) u || reorders dep u v
 
+-- two schedules have equal lengths and run the same step names
+abbrev pub sameSteps : (M : Machine) → M .State → List ℕ → List ℕ → Bool
+sameSteps M s p q = eqb (length p) (length q) && (within (names M s p) (names M s q) && within (names M s q) (names M s p))
+
 -- two schedules are the same when they have equal lengths, run the same step names, and run no dependent pair in opposite orders
 unfoldable pub equivalent : (M : Machine) → M .State → List ℕ → List ℕ → Bool
-equivalent M s p q =
-    eqb (length p) (length q) && (within (names M s p) (names M s q) && within (names M s q) (names M s p))
-    && not (reorders (M .dep) (names M s p) (names M s q))
+equivalent M s p q = sameSteps M s p q && not (reorders (M .dep) (names M s p) (names M s q))

@@ -1,25 +1,31 @@
 -- `footprint::mutex` meets its contract.
 -- Assumes nothing.
 use native.Mathlib.Omega.{arith}
-use mathlib.Core.Path.{_∙_}
-use Rattle.footprint.specs.Marks.{mark, unlocking, awaitingUnlock}
-use Rattle.footprint.proofs.MarkPlaces.{beyond, within}
+use mathlib.Core.Path.{refl}
+use Rattle.footprint.proofs.Lists.{looked-nothing, looked-one, beyond, within}
+use borrow.Author.Needs.{needs}
 use Rattle.footprint.proofs.mutex.Statement.{statement}
 use Rattle.footprint.proofs.mutex.Tie as tie
 
 returns : tie.Need-returns
 returns c =
     let x = c .before .args in
-    (beyond (x .count) (x .place) (mark awaitingUnlock (x .m)) (c .if1 .taken), beyond (x .count) (x .place) (mark unlocking (x .m)) (c .if1 .taken))
+    rw (beyond (x .count) (x .n) _ (c .if1 .taken)) (looked-nothing refl refl)
 
-single-requires : tie.Need-single-requires
-single-requires c κs = (omega arith, omega arith, c .before .pre (c .if1 .left))
+add-look-at : tie.Need-add-look-at
+add-look-at c =
+    let small = c .before .pre .0 (c .if1 .left) in
+    omega (arith, small)
+
+look-at-requires : tie.Need-look-at-requires
+look-at-requires c κs =
+    let small = c .before .before .pre .0 (c .before .if1 .left) in
+    (omega (arith, small), c .before .before .pre .1)
 
 returns-2 : tie.Need-returns-2
 returns-2 c =
-    let x = c .before .before .args in
-    let there = c .before .if1 .left in
-    (c .single .ensures .0 ∙ within (x .count) (x .place) (mark awaitingUnlock (x .m)) there, c .single .ensures .1 ∙ within (x .count) (x .place) (mark unlocking (x .m)) there)
+    let x = c .before .before .before .args in
+    rw (within (x .count) (x .n) _ (c .before .before .if1 .left)) (looked-one (c .look-at .ensures .0) (c .look-at .ensures .1))
 
 pub mutex-spec : {M : Type 1} → statement M
-mutex-spec = tie.close (tie.spec returns single-requires returns-2)
+mutex-spec = tie.close (tie.spec returns add-look-at look-at-requires returns-2)

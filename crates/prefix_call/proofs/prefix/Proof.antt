@@ -2,7 +2,7 @@
 use mathlib.Core.Path.{_∙_, sym}
 use native.Mathlib.Omega.{arith}
 use lib.Seq.{length-take-le}
-use Rattle.model.proofs.RecordingLaws.{first-whole, second-whole}
+use Rattle.model.proofs.RecordingLaws.{first-compared, second-compared}
 use borrow.Author.Needs.{needs}
 use Rattle.prefix_call.proofs.prefix.Statement.{statement}
 use Rattle.prefix_call.proofs.prefix.Tie as tie
@@ -14,7 +14,7 @@ same-requires : tie.Need-same-requires
 same-requires c κs = search needs
 
 returns : tie.Need-returns
-returns c = let l = c .before .before .if1 .taken in c .same .ensures ∙ sym (first-whole _ _ _ (omega (arith, l)))
+returns c = let l = c .before .before .if1 .taken in c .same .ensures ∙ sym (first-compared _ _ _ (omega (arith, l)))
 
 slice-aggregate-same-2 : tie.Need-slice-aggregate-same-2
 slice-aggregate-same-2 c = let l = c .before .if1 .left in sym (length-take-le _ _ (omega (arith, l)))
@@ -23,7 +23,7 @@ same-requires-2 : tie.Need-same-requires-2
 same-requires-2 c κs = search needs
 
 returns-2 : tie.Need-returns-2
-returns-2 c = c .same2 .ensures ∙ sym (second-whole _ _ _ (c .before .before .if1 .left))
+returns-2 c = c .same2 .ensures ∙ sym (second-compared _ _ _ (c .before .before .if1 .left))
 
 pub prefix-spec : {M : Type 1} → statement M
 prefix-spec =

@@ -4,21 +4,22 @@ use Prim.Native.Nat.{ℕ, _<_}
 use native.Mathlib.Omega.{arith}
 use mathlib.Core.Path.{_≡_, subst}
 use mathlib.Core.Logic.{_⊎_, inl, inr}
-use mathlib.Core.List.{List}
+use mathlib.Core.List.{List, [], _∷_, _++_}
+use lib.Dec.{lit<}
 use Rattle.table.specs.declared.Action.{Action}
 use Rattle.table.specs.declared.Action.the-variants.{TestAny, WaitAny, MutexTest, MutexWait}
 use Rattle.table.specs.declared.Numbers.{Numbers}
 use Rattle.table.specs.Format.{mutexesOf}
 use Rattle.table.specs.Promise.{WellFormed, Listing, InRange}
 use Rattle.trace.specs.Machine.{Name}
-use Rattle.model.specs.Site.{name}
-use Rattle.model.specs.Views.{posts, Look, blind, communications, mutexes, looks, listed}
+use Rattle.model.specs.Site.{name, Side, sends, receives, Port, opposite}
+use Rattle.model.specs.Views.{Post, silent, mails, joins, leaves, notes, posts, Look, blind, communications, mutexes, looks, listed}
 use Rattle.model.specs.Step.{actionAt}
 use Rattle.model.specs.Pair.{postAt}
 use Rattle.model.proofs.ByKind.{Posting, quiet, sends-to, receives-from, locks, unlocks, writes-down, posting, Looking, blindly, testing, mutex-testing, looking}
 use Rattle.names.specs.Steps.{Stands, Each}
 use Rattle.names.proofs.Listed.{each-listed, each-map, listed-standing}
-use Rattle.footprint.specs.Marks.{SmallPost, SmallLook, LookStands}
+use Rattle.footprint.specs.Resources.{resource, sideGroup, unlockGroup, portResource, postedTo, awaitedBy, allOf, lookedAt, SmallPost, SmallLook, LookStands, posted, looked}
 
 module _ (table : List ℕ) (accepted : WellFormed table) where
   post-small : (a k : ℕ) (x : Action) → InRange table a k x → SmallPost (posts x)
@@ -70,3 +71,46 @@ module _ (table : List ℕ) (accepted : WellFormed table) where
 
   pub small-look : (x : Name) → Stands table x → SmallLook (postAt table (x .actor)) (looks (actionAt table x))
   small-look x s = look-small (x .actor) (looks (actionAt table x)) (look-stands x s)
+
+-- ---- every resource is one of forty
+
+port-few : (p : Port) → p .mailbox < 8 → portResource p < 40
+port-few p h = omega (arith, h, side-few (p .side))
+  where
+    side-few : (d : Side) → sideGroup d < 2
+    side-few sends = lit< tt
+    side-few receives = lit< tt
+
+posted-few : (p : Post) → SmallPost p → Each (λ r. r < 40) (postedTo p)
+posted-few silent h = tt
+posted-few (mails p) h = (port-few p h, tt)
+posted-few (joins m) h = (omega (arith, h), tt)
+posted-few (leaves m) h = (omega (arith, h), tt)
+posted-few notes h = (lit< tt, tt)
+
+awaited-few : (p : Post) → SmallPost p → Each (λ r. r < 40) (awaitedBy p)
+awaited-few silent h = tt
+awaited-few (mails p) h = (port-few (opposite p) h, tt)
+awaited-few (joins m) h = tt
+awaited-few (leaves m) h = tt
+awaited-few notes h = tt
+
+few-joined : (l m : List ℕ) → Each (λ r. r < 40) l → Each (λ r. r < 40) m → Each (λ r. r < 40) (l ++ m)
+few-joined [] m e f = f
+few-joined (k ∷ l) m e f = (e .0, few-joined l m (e .1) f)
+
+all-few : {P : ℕ → Type 0} (f : ℕ → List ℕ) → ((k : ℕ) → P k → Each (λ r. r < 40) (f k)) → (l : List ℕ) → Each P l → Each (λ r. r < 40) (allOf f l)
+all-few f one [] e = tt
+all-few f one (k ∷ l) e = few-joined (f k) (allOf f l) (one k (e .0)) (all-few f one l (e .1))
+
+looked-few : (own : ℕ → Post) (y : Look) → SmallLook own y → Each (λ r. r < 40) (lookedAt own y)
+looked-few own blind h = tt
+looked-few own (communications l) h = all-few (λ k. awaitedBy (own k)) (λ k s. awaited-few (own k) s) l h
+looked-few own (mutexes l) h = all-few (λ m. resource unlockGroup m ∷ []) (λ m s. (omega (arith, s), tt)) l h
+
+module _ (table : List ℕ) (accepted : WellFormed table) (x : Name) (s : Stands table x) where
+  pub posted-fit : Each (λ r. r < 40) (posted table x)
+  posted-fit = posted-few (posts (actionAt table x)) (small-post table accepted x s)
+
+  pub looked-fit : Each (λ r. r < 40) (looked table x)
+  looked-fit = looked-few (postAt table (x .actor)) (looks (actionAt table x)) (small-look table accepted x s)
