@@ -76,7 +76,7 @@ impl Same {
 fn entries_of(number: u32) -> (usize, usize) {
     // Before it are the j·(j − 1)/2 pairs of lower later entries, and i more.
     let before = number as usize - 1;
-    let j = (1 + (8 * before + 1).isqrt()) / 2;
+    let j = (8 * before + 1).isqrt().div_ceil(2);
     (before - j * (j - 1) / 2, j)
 }
 
