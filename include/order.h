@@ -185,21 +185,30 @@ enum OrderSameVerdict {
     ORDER_SAME = 1       /* some do: the two are one run */
 };
 
-/* The same verdict: `verdict` is an OrderSameVerdict. */
+/* The same verdict: `verdict` is an OrderSameVerdict, `pairs` how many pairs of entries were compared.
+ *
+ * Pairs of entries i < j of the first schedule, counted from 0, are compared by rising j, then rising i, and the search
+ * ends with the first dependent pair that the second runs in the opposite order. `pairs` is
+ *   m (m - 1) / 2, all of them, where the verdict is ORDER_SAME, m being the number of entries;
+ *   0 where the lengths differ or the two did not run the same steps: nothing was compared;
+ *   otherwise j (j - 1) / 2 + i + 1, the pair that ended the search included; each number tells one pair.
+ */
 typedef struct {
     uint32_t refusal;
     uint32_t position;
     uint32_t verdict;
+    uint32_t pairs;
 } OrderSame;
 
-/* Whether exchanges of independent neighbours turn the first schedule into the second. Schedules of
- * different lengths are different. Refusals, in this order: 1 to 9; 11 to 13 and 21; 14 to 16 and 22.
+/* Whether exchanges of independent neighbours turn the first schedule into the second, and how many pairs were
+ * compared. Schedules of different lengths are different. Refusals, in this order: 1 to 9; 11 to 13 and 21; 14 to 16
+ * and 22.
  */
 OrderSame order_same(const uint8_t *table, size_t table_length, const uint8_t *first, size_t first_length,
                      const uint8_t *second, size_t second_length);
 
 /* The same verdict on two recordings as far as both go: the longer is held to the length of the shorter, and
- * entries after that are not stepped. Refusals of these parts, in this order: 1 to 9; 11 to 13 and 21; 14 to 16
+ * entries after that are not stepped. `verdict` and `pairs` are of these parts. Refusals of them, in this order: 1 to 9; 11 to 13 and 21; 14 to 16
  * and 22.
  */
 OrderSame order_prefix(const uint8_t *table, size_t table_length, const uint8_t *first, size_t first_length,

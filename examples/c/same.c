@@ -16,7 +16,8 @@ int main(void)
             printf("refused %u at %u\n", (unsigned)answer.refusal, (unsigned)answer.position);
             return 1;
         }
-        puts(answer.verdict == ORDER_SAME ? "same" : "different");
+        const char *verdict = answer.verdict == ORDER_SAME ? "same" : "different";
+        printf("%s, %u pairs compared\n", verdict, (unsigned)answer.pairs);
     }
     return 0;
 }

@@ -89,6 +89,7 @@ void sums(void);
 void draws(void);
 void verdicts(void);
 void recordings(void);
+void compared(void);
 void journal(void);
 void empty_slices(void);
 

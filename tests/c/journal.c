@@ -131,15 +131,17 @@ static void paired(uint8_t a, uint8_t k, uint8_t b, uint8_t l, uint32_t verdict)
     expect_number(back.verdict, verdict, "order_pair of a Note", "the verdict the other way round");
 }
 
-static void judged(Lent lent, uint32_t verdict)
+static void judged(Lent lent, uint32_t verdict, uint32_t compared)
 {
     OrderSame answer = order_same(lent.table, lent.table_length, lent.first, lent.first_length, lent.second,
                                   lent.second_length);
     expect_number(answer.refusal, ORDER_ACCEPTED, "order_same of Notes", "the refusal");
     expect_number(answer.verdict, verdict, "order_same of Notes", "the verdict");
+    expect_number(answer.pairs, compared, "order_same of Notes", "the pairs compared");
     answer = order_prefix(lent.table, lent.table_length, lent.first, lent.first_length, lent.second,
                           lent.second_length);
     expect_number(answer.verdict, verdict, "order_prefix of Notes", "the verdict");
+    expect_number(answer.pairs, compared, "order_prefix of Notes", "the pairs compared");
     expect_kept(&lent, 0, 0, "order_same of Notes");
 }
 
@@ -153,14 +155,14 @@ static void verdict(void)
     paired(0, 0, 1, 1, ORDER_INDEPENDENT);
     paired(0, 1, 1, 3, ORDER_INDEPENDENT);
     static const uint8_t first[] = {0, 0, 1, 0, 1}, notes[] = {0, 0, 1, 1, 0}, apart[] = {0, 1, 0, 0, 1};
-    judged(after(first, 5, notes, 5), ORDER_DIFFERENT);
-    judged(after(first, 5, apart, 5), ORDER_SAME);
+    judged(after(first, 5, notes, 5), ORDER_DIFFERENT, 10);
+    judged(after(first, 5, apart, 5), ORDER_SAME, 10);
     Lent lent = after(first, 5, notes, 5);
     route_refused(lent, ORDER_REFUSED_DIFFERENT, 0);
     /* A Send and the other actor's Note trade places. */
     static const uint8_t sent[] = {1, 0, 1}, noted[] = {1, 1, 0};
     lent = after(sent, 3, noted, 3);
-    judged(lent, ORDER_SAME);
+    judged(lent, ORDER_SAME, 3);
     OrderRoute route = order_route(lent.table, lent.table_length, lent.first, 3, lent.second, 3, lent.route,
                                    lent.route_length);
     expect_number(route.length, 1, "order_route across a Note", "the length");

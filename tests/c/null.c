@@ -85,6 +85,7 @@ static void expect_verdict(OrderSame answer, uint32_t verdict)
 {
     expect_number(answer.refusal, ORDER_ACCEPTED, "a verdict without a schedule", "the refusal");
     expect_number(answer.verdict, verdict, "a verdict without a schedule", "the verdict");
+    expect_number(answer.pairs, 0, "a verdict without a schedule", "the pairs compared");
 }
 
 /* order_same or order_prefix, with its verdict on a schedule against none. */

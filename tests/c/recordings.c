@@ -8,7 +8,7 @@ static const uint8_t whole[] = {0, 0, 1, 1}, begun[] = {1, 0, 0}, other[] = {1, 
 static const uint8_t absent[] = {0, 0, 7, 7}, done[] = {0, 0, 0, 7}, waits[] = {1, 0, 1, 7};
 
 static void prefix_is(const uint8_t *first, size_t first_length, const uint8_t *second, size_t second_length,
-                      uint32_t verdict)
+                      uint32_t verdict, uint32_t compared)
 {
     Lent lent = with(first, first_length, second, second_length);
     OrderSame answer = order_prefix(lent.table, lent.table_length, lent.first, lent.first_length, lent.second,
@@ -16,6 +16,7 @@ static void prefix_is(const uint8_t *first, size_t first_length, const uint8_t *
     expect_number(answer.refusal, ORDER_ACCEPTED, "order_prefix", "the refusal");
     expect_number(answer.position, 0, "order_prefix", "the position");
     expect_number(answer.verdict, verdict, "order_prefix", "the verdict");
+    expect_number(answer.pairs, compared, "order_prefix", "the pairs compared");
     expect_kept(&lent, 0, 0, "order_prefix");
 }
 
@@ -31,8 +32,8 @@ static void bad_entry(const uint8_t bad[4], uint32_t number, uint32_t second)
         prefix_refused(with(whole, wholes, bad, bads), second, 2);
     }
     for (size_t length = 3; length <= 4; length++) {
-        prefix_is(bad, length, bad, 2, ORDER_SAME);
-        prefix_is(bad, 2, bad, length, ORDER_SAME);
+        prefix_is(bad, length, bad, 2, ORDER_SAME, 1);
+        prefix_is(bad, 2, bad, length, ORDER_SAME, 1);
         same_refused(with(bad, length, bad, 2), number, 2);
         same_refused(with(bad, 2, bad, length), second, 2);
     }
@@ -40,14 +41,14 @@ static void bad_entry(const uint8_t bad[4], uint32_t number, uint32_t second)
 
 static void prefixes(void)
 {
-    prefix_is(whole, 4, begun, 3, ORDER_SAME);
-    prefix_is(begun, 3, whole, 4, ORDER_SAME);
-    prefix_is(whole, 4, other, 2, ORDER_DIFFERENT);
-    prefix_is(other, 2, whole, 4, ORDER_DIFFERENT);
-    prefix_is(whole, 3, begun, 3, ORDER_SAME);
-    prefix_is(whole, 2, begun, 2, ORDER_DIFFERENT);
-    prefix_is(absent, 0, absent, 4, ORDER_SAME);
-    prefix_is(absent, 4, absent, 0, ORDER_SAME);
+    prefix_is(whole, 4, begun, 3, ORDER_SAME, 3);
+    prefix_is(begun, 3, whole, 4, ORDER_SAME, 3);
+    prefix_is(whole, 4, other, 2, ORDER_DIFFERENT, 0);
+    prefix_is(other, 2, whole, 4, ORDER_DIFFERENT, 0);
+    prefix_is(whole, 3, begun, 3, ORDER_SAME, 3);
+    prefix_is(whole, 2, begun, 2, ORDER_DIFFERENT, 0);
+    prefix_is(absent, 0, absent, 4, ORDER_SAME, 0);
+    prefix_is(absent, 4, absent, 0, ORDER_SAME, 0);
     bad_entry(absent, ORDER_REFUSED_NO_ACTOR, ORDER_REFUSED_SECOND_NO_ACTOR);
     bad_entry(done, ORDER_REFUSED_FINISHED, ORDER_REFUSED_SECOND_FINISHED);
     bad_entry(waits, ORDER_REFUSED_NOT_READY, ORDER_REFUSED_SECOND_NOT_READY);

@@ -48,6 +48,7 @@ void expect_same_refused(OrderSame answer, uint32_t number, uint32_t position)
 {
     expect_refusal(answer.refusal, answer.position, number, position, "order_same");
     expect_number(answer.verdict, 0, "order_same", "the verdict at a refusal");
+    expect_number(answer.pairs, 0, "order_same", "the pairs compared at a refusal");
 }
 
 void expect_route_refused(OrderRoute answer, uint32_t number, uint32_t position)

@@ -13,13 +13,14 @@ static void pairs(const uint8_t steps[4], uint32_t verdict)
     expect_kept(&lent, 0, 0, "order_pair");
 }
 
-static void sames(Lent lent, uint32_t verdict)
+static void sames(Lent lent, uint32_t verdict, uint32_t compared)
 {
     OrderSame answer = order_same(lent.table, lent.table_length, lent.first, lent.first_length, lent.second,
                                   lent.second_length);
     expect_number(answer.refusal, ORDER_ACCEPTED, "order_same", "the refusal");
     expect_number(answer.position, 0, "order_same", "the position");
     expect_number(answer.verdict, verdict, "order_same", "the verdict");
+    expect_number(answer.pairs, compared, "order_same", "the pairs compared");
     expect_kept(&lent, 0, 0, "order_same");
 }
 
@@ -68,9 +69,10 @@ void verdicts(void)
     pair_refused(with(apart, 0, apart, 0), no_action, ORDER_REFUSED_NO_STEP, 0);
     /* (h) */
     static const uint8_t first[] = {0, 0, 1, 1}, second[] = {1, 0, 0, 1};
-    sames(with(first, 4, second, 4), ORDER_SAME);
-    sames(with(first, 4, first, 4), ORDER_SAME);
-    sames(with(first, 4, first, 3), ORDER_DIFFERENT);
+    sames(with(first, 4, second, 4), ORDER_SAME, 6);
+    sames(with(first, 4, first, 4), ORDER_SAME, 6);
+    sames(with(first, 4, first, 3), ORDER_DIFFERENT, 0);
+    sames(with(first, 2, second, 2), ORDER_DIFFERENT, 0);
     routes(with(first, 4, second, 4));
     routes(with(second, 4, first, 4));
     routes(with(first, 4, first, 4));

@@ -1,12 +1,13 @@
 //! What the benchmark measures: each call on small, typical and maximal tables, and on tables with Notes.
 
 use crate::inputs::contended::grown;
-use crate::inputs::interleave::by_actor;
+use crate::inputs::interleave::{by_actor, opposed_at};
 use crate::inputs::mix::Mix;
 use crate::inputs::rng::Rng;
 use crate::inputs::sample::Shape;
 use order_engine::StepName;
-use reference::{SCHEDULE_MOST, check, draw};
+use reference::trace::Trace;
+use reference::{SCHEDULE_MOST, Schedule, Table, check, draw};
 use tables::{Kind, TABLE_A};
 
 /// How many different tables a measurement goes through, where it is more than one.
@@ -27,6 +28,11 @@ pub struct Work {
     pub second: Vec<u8>,
     /// The steps of [`Self::part`] likewise: a recording that begins as the first schedule does.
     pub begun: Vec<u8>,
+    /// The same steps with one dependent pair in the opposite order, the earliest that can be. None where no
+    /// pair can.
+    pub early: Option<Vec<u8>>,
+    /// The same with the latest that can be.
+    pub late: Option<Vec<u8>>,
     /// A step of the first actor and one of the last.
     pub steps: [StepName; 2],
     /// The least seed whose drawn schedule runs every action.
@@ -70,6 +76,8 @@ pub fn loads() -> Vec<Load> {
                 first: vec![0, 0, 1, 1],
                 second: vec![1, 0, 0, 1],
                 begun: vec![1, 0, 0],
+                early: None,
+                late: None,
                 steps: [StepName::new(0, 1), StepName::new(1, 1)],
                 seed: 0,
             }],
@@ -104,17 +112,30 @@ fn made(rng: &mut Rng, shape: impl Fn() -> Shape, mixes: [Mix; 2]) -> Vec<Work> 
         let checked = check(&sample.bytes).expect("the table is right");
         let second = by_actor(&checked, &first);
         let begun = by_actor(&checked, part(&first));
+        let [early, late] = differing(&checked, &first);
         let seed = running_all(&sample.bytes, first.len());
         Work {
             table: sample.bytes,
             first,
             second,
             begun,
+            early,
+            late,
             steps,
             seed,
         }
     });
     works.collect()
+}
+
+/// Schedules with one dependent pair of the first in the opposite order: the first such pair by rising later
+/// entry, then by rising earlier entry, and the last; each with lower actors' steps as early as can be.
+fn differing(table: &Table, first: &[u8]) -> [Option<Vec<u8>>; 2] {
+    let trace = Trace::of(table, Schedule::First, first).expect("the schedule is accepted");
+    let at = |(i, j)| opposed_at(table, trace.names(), i, j);
+    let pairs = (0..first.len()).flat_map(|j| (0..j).map(move |i| (i, j)));
+    let ends = [pairs.clone().find_map(at), pairs.rev().find_map(at)];
+    ends.map(|other| Some(by_actor(table, &other?)))
 }
 
 /// The least seed whose drawn schedule has so many entries.

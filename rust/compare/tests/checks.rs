@@ -6,7 +6,8 @@ use compare::harness::call::Call;
 use compare::harness::sides::difference;
 use compare::harness::slots::{Input, Lent};
 use reference::{REPORT_ROOM, SCHEDULE_MOST};
-use tables::TABLE_A;
+use tables::action::send;
+use tables::{Layout, TABLE_A};
 
 /// A run of table A with more room than its report takes.
 fn input(schedule: &[u8]) -> Input {
@@ -90,6 +91,29 @@ fn a_number_beside_a_refusal() {
     };
     let said = said(&WRONG, &input(&[1, 1]));
     assert!(said.contains("refused 13 at 1 with values [1, 0, 0] that have to be 0"));
+}
+
+#[test]
+fn a_number_that_tells_another_pair() {
+    static WRONG: Call = Call {
+        engine: |_| Ok([0, 3]).into(),
+        // Even where the reference makes the same mistake.
+        reference: |_| Ok([0, 3]).into(),
+        ..same::CALL
+    };
+    let sender = [send(0, 0)];
+    let table = Layout::new(1, 0, &[&sender[..]; 3]).bytes();
+    let asked = |second: [u8; 3]| Input {
+        read: [table.clone(), vec![0, 1, 2], second.to_vec()],
+        ..Input::default()
+    };
+    let said = said(&WRONG, &asked([2, 0, 1]));
+    assert!(
+        said.contains("mistake:          the number tells"),
+        "{said}"
+    );
+    assert!(difference(&WRONG, &asked([0, 2, 1])).is_none());
+    assert!(difference(&same::CALL, &asked([2, 0, 1])).is_none());
 }
 
 #[test]

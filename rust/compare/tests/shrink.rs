@@ -72,7 +72,8 @@ fn a_bad_entry_after_the_cut() {
     let stepped = |input: &Input| {
         let [table, first, second] = input.slices();
         let answers = [reference::prefix, reference::same].map(|call| call(table, first, second));
-        answers[0] == Ok(true) && answers[1].is_err_and(|refusal| refusal.number() == 14)
+        answers[0].is_ok_and(|same| same.is_same)
+            && answers[1].is_err_and(|refusal| refusal.number() == 14)
     };
     let least = shrunk(&prefix::CALL, stepped);
     assert_eq!(least.read[0], [1, 1, 0, 0, 8, 0, 0, 0]);

@@ -4,20 +4,26 @@ use crate::names::names;
 use crate::rule::rule;
 use crate::table::Table;
 use crate::words::{count, joined, step};
-use order_engine::{PairVerdict, StepName, pair};
+use order_engine::{PairVerdict, Same, StepName, pair};
 use std::fmt::Write;
 
 /// Which of the dependent pairs that run in opposite orders are named.
 #[derive(Clone, Copy, PartialEq, Eq, Debug)]
 pub enum Pairs {
-    /// The first; of the others, how many they are.
+    /// The one that ended the engine's search; of the others, how many they are.
     First,
     /// All of them.
     All,
 }
 
-/// How the two differ, in words. Both are accepted.
-pub fn difference(table: &Table, first: &[u8], second: &[u8], pairs: Pairs) -> String {
+/// How the two differ, in words, where this is the engine's answer about them.
+pub fn difference(
+    table: &Table,
+    first: &[u8],
+    second: &[u8],
+    answer: &Same,
+    pairs: Pairs,
+) -> String {
     let [one, other] = [first, second].map(|schedule| names(&table.bytes, schedule));
     let mut text = String::new();
     if one.len() != other.len() {
@@ -26,7 +32,7 @@ pub fn difference(table: &Table, first: &[u8], second: &[u8], pairs: Pairs) -> S
     }
     text += &alone(table, "first", &one, &other);
     text += &alone(table, "second", &other, &one);
-    text + &opposed(table, &one, &other, pairs)
+    text + &opposed(table, &one, &other, answer, pairs)
 }
 
 /// The steps that only one of the two runs, a line for each actor.
@@ -49,10 +55,18 @@ fn alone(table: &Table, which: &str, own: &[StepName], other: &[StepName]) -> St
     text
 }
 
-/// The dependent pairs that the two run in opposite orders, and why they are dependent.
-fn opposed(table: &Table, first: &[StepName], second: &[StepName], pairs: Pairs) -> String {
-    let mut all = reversed(table, first, second);
-    let Some((i, j)) = all.next() else {
+/// The dependent pairs that the two run in opposite orders, and why they are dependent: the one that ended
+/// the engine's search, then those after it. Of schedules with other steps, of which the engine compares no
+/// pair, those of the steps that both run.
+fn opposed(
+    table: &Table,
+    first: &[StepName],
+    second: &[StepName],
+    answer: &Same,
+    pairs: Pairs,
+) -> String {
+    let mut others = reversed(table, first, second, answer.pairs as usize);
+    let Some((i, j)) = answer.entries().or_else(|| others.next()) else {
         return String::new();
     };
     let (earlier, later) = (first[i], first[j]);
@@ -64,7 +78,7 @@ fn opposed(table: &Table, first: &[StepName], second: &[StepName], pairs: Pairs)
         \x20 second schedule: entry {l} is {later}, entry {k} is {earlier}\n\
         They are dependent, {rule}.\n"
     );
-    let others = all.map(|(i, j)| dependent(table, first[i], first[j]));
+    let others = others.map(|(i, j)| dependent(table, first[i], first[j]));
     text + &more(&others.collect::<Vec<_>>(), pairs)
 }
 
@@ -96,20 +110,21 @@ fn more(others: &[(String, String)], pairs: Pairs) -> String {
 }
 
 /// The pairs of entries of the first schedule that are dependent and that the second schedule runs in
-/// the opposite order: first the one whose later entry comes first, and then whose earlier one does.
+/// the opposite order: first the one whose later entry comes first, and then whose earlier one does. So many
+/// pairs have been compared already.
 fn reversed(
     table: &Table,
     first: &[StepName],
     second: &[StepName],
+    compared: usize,
 ) -> impl Iterator<Item = (usize, usize)> {
     let pairs = (0..first.len()).flat_map(|j| (0..j).map(move |i| (i, j)));
-    let opposite =
-        pairs.filter(
-            |&(i, j)| match (place(second, first[i]), place(second, first[j])) {
-                (Some(earlier), Some(later)) => later < earlier,
-                _ => false,
-            },
-        );
+    let opposite = pairs.skip(compared).filter(|&(i, j)| {
+        match (place(second, first[i]), place(second, first[j])) {
+            (Some(earlier), Some(later)) => later < earlier,
+            _ => false,
+        }
+    });
     opposite.filter(|&(i, j)| pair(&table.bytes, first[i], first[j]) == Ok(PairVerdict::Dependent))
 }
 

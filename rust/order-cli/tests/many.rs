@@ -150,7 +150,8 @@ fn different_schedules_are_told_apart() {
     for _ in 0..2_000 {
         let table = Table::of(&layout(&mut rng).bytes()).expect("an accepted table");
         let [first, second] = [20, 20].map(|most| walk(&mut rng, &table.bytes, most));
-        let told = difference(&table, &first, &second, Pairs::All);
+        let answer = same(&table.bytes, &first, &second).expect("both are accepted");
+        let told = difference(&table, &first, &second, &answer, Pairs::All);
         let [one, other] = [&first, &second].map(|schedule| {
             let names = names(&table.bytes, schedule);
             assert!(names.iter().map(|name| &name.actor).eq(schedule));
@@ -160,8 +161,12 @@ fn different_schedules_are_told_apart() {
         assert_eq!(told.matches(", case ").count(), pairs, "{told}");
         several += usize::from(pairs > 1);
         let [one, other] = [one, other].map(HashSet::<StepName>::from_iter);
-        let is_same = same(&table.bytes, &first, &second).expect("both are accepted");
-        if is_same.is_same() {
+        if let Some([earlier, later]) = answer.opposed {
+            let begin = told.lines().next().unwrap_or_default();
+            assert!(begin.starts_with(&format!("{earlier} ")), "{told}");
+            assert!(begin.contains(&format!(" and {later} ")), "{told}");
+        }
+        if answer.is_same() {
             assert_eq!(told, "");
             met[0] += 1;
         } else if one == other {

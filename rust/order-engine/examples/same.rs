@@ -1,5 +1,5 @@
-//! Whether two other orders of a site are the same run as the first. The table is read from standard
-//! input.
+//! Whether two other orders of a site are the same run as the first, and which steps tell that they are
+//! not. The table is read from standard input.
 
 use order_engine::same;
 use std::io::{self, Read};
@@ -12,13 +12,17 @@ fn main() -> io::Result<ExitCode> {
     io::stdin().read_to_end(&mut table)?;
 
     for other in others {
-        match same(&table, &first, &other) {
-            Ok(answer) if answer.is_same() => println!("same"),
-            Ok(_) => println!("different"),
+        let answer = match same(&table, &first, &other) {
+            Ok(answer) => answer,
             Err(refusal) => {
                 println!("{refusal}");
                 return Ok(ExitCode::FAILURE);
             }
+        };
+        match answer.opposed {
+            _ if answer.is_same() => println!("same"),
+            Some([one, other]) => println!("different: {one} and {other} in the other order"),
+            None => println!("different: other steps"),
         }
     }
     Ok(ExitCode::SUCCESS)

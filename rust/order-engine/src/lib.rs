@@ -10,7 +10,8 @@
 //!   and the same as a text with a line for each actor;
 //! - [`draw()`]: a schedule that a seed determines, to its end;
 //! - [`pair()`], [`same()`] and [`route()`]: whether two steps are dependent, whether two schedules are
-//!   one and the same run, and the exchanges that lead from the one to the other;
+//!   one and the same run, which steps tell that they are not, and the exchanges that lead from the one to
+//!   the other;
 //! - [`prefix()`] and [`remainder()`]: whether two recordings are one run as far as both go, and what is
 //!   left of the longer.
 //!

@@ -6,20 +6,20 @@ use order_engine::{Recording, Refusal, SameVerdict, prefix, remainder, same};
 use std::ptr::{self, without_provenance};
 use tables::TABLE_A as A;
 
-/// The verdict, or the refusal's number and position.
-fn verdict(first: &[u8], second: &[u8]) -> Result<SameVerdict, (u32, u32)> {
+/// The verdict and how many pairs were compared, or the refusal's number and position.
+fn verdict(first: &[u8], second: &[u8]) -> Result<(SameVerdict, u32), (u32, u32)> {
     let numbers = |refusal: Refusal| (refusal.number(), refusal.position());
     let answer = prefix(&A, first, second).map_err(numbers)?;
-    Ok(answer.verdict)
+    Ok((answer.verdict, answer.pairs))
 }
 
 #[test]
 fn as_far_as_both_go() {
-    assert_eq!(verdict(&[0, 0, 1, 1], &[1, 0, 0]), Ok(Same));
-    assert_eq!(verdict(&[1, 0, 0], &[0, 0, 1, 1]), Ok(Same));
-    assert_eq!(verdict(&[0, 0, 1, 1], &[1, 0, 0, 1]), Ok(Same));
-    assert_eq!(verdict(&[0, 0, 1, 1], &[1, 0]), Ok(Different));
-    assert_eq!(verdict(&[], &[0, 0]), Ok(Same));
+    assert_eq!(verdict(&[0, 0, 1, 1], &[1, 0, 0]), Ok((Same, 3)));
+    assert_eq!(verdict(&[1, 0, 0], &[0, 0, 1, 1]), Ok((Same, 3)));
+    assert_eq!(verdict(&[0, 0, 1, 1], &[1, 0, 0, 1]), Ok((Same, 6)));
+    assert_eq!(verdict(&[0, 0, 1, 1], &[1, 0]), Ok((Different, 0)));
+    assert_eq!(verdict(&[], &[0, 0]), Ok((Same, 0)));
     assert_eq!(same(&A, &[], &[0, 0]).unwrap().verdict, Different);
 }
 
@@ -28,8 +28,8 @@ fn entries_of_the_remainder_are_not_stepped() {
     let (whole, bad) = ([0, 0, 1, 1], [1, 0, 0, 255]);
     assert_eq!(verdict(&bad, &whole), Err((11, 3)));
     assert_eq!(verdict(&whole, &bad), Err((14, 3)));
-    assert_eq!(verdict(&bad, &whole[..3]), Ok(Same));
-    assert_eq!(verdict(&whole[..3], &bad), Ok(Same));
+    assert_eq!(verdict(&bad, &whole[..3]), Ok((Same, 3)));
+    assert_eq!(verdict(&whole[..3], &bad), Ok((Same, 3)));
     // The first part is stepped whole before the second.
     assert_eq!(verdict(&[1, 1, 255], &[2, 0]), Err((13, 1)));
     assert_eq!(verdict(&[1, 0, 255], &[2, 0]), Err((14, 0)));

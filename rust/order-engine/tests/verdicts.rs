@@ -2,8 +2,9 @@
 
 use order_engine::PairVerdict::{Dependent, Independent};
 use order_engine::SameVerdict::{Different, Same};
-use order_engine::{Refusal, SameVerdict, StepName, pair, route, route_room, same};
-use tables::TABLE_A as A;
+use order_engine::{Refusal, SameVerdict, StepName, pair, prefix, route, route_room, same};
+use tables::action::{send, set};
+use tables::{Layout, TABLE_A as A};
 
 fn numbers<T: std::fmt::Debug>(answer: Result<T, Refusal>) -> (u32, u32) {
     let refusal = answer.unwrap_err();
@@ -14,8 +15,10 @@ const fn step(actor: u8, action: u8) -> StepName {
     StepName::new(actor, action)
 }
 
-fn verdict(first: &[u8], second: &[u8]) -> SameVerdict {
-    same(&A, first, second).unwrap().verdict
+/// The verdict, and how many pairs were compared.
+fn verdict(first: &[u8], second: &[u8]) -> (SameVerdict, u32) {
+    let answer = same(&A, first, second).unwrap();
+    (answer.verdict, answer.pairs)
 }
 
 #[test]
@@ -28,9 +31,11 @@ fn case_g() {
 #[test]
 fn case_h() {
     let (first, second) = ([0, 0, 1, 1], [1, 0, 0, 1]);
-    assert_eq!(verdict(&first, &second), Same);
+    assert_eq!(verdict(&first, &second), (Same, 6));
     assert!(same(&A, &first, &second).unwrap().is_same());
-    assert_eq!(verdict(&first, &[0, 0, 1]), Different);
+    assert_eq!(verdict(&first, &[0, 0, 1]), (Different, 0));
+    assert_eq!(verdict(&first[..2], &second[..2]), (Different, 0));
+    assert_eq!(verdict(&[], &[]), (Same, 0));
     let mut positions = [9; route_room(4)];
     let length = route(&A, &first, &second, &mut positions).unwrap().len();
     let mut schedule = first;
@@ -39,6 +44,38 @@ fn case_h() {
     }
     assert_eq!(schedule, second);
     assert!(positions[length..].iter().all(|&entry| entry == 9));
+}
+
+#[test]
+fn the_pair_that_ends_the_search() {
+    // Actors 0 and 3 send to mailbox 0, actors 1 and 2 to mailbox 1, after a Set each.
+    let scripts = [0, 1, 1, 0].map(|mailbox| [set(0, 1), send(mailbox, 0)]);
+    let table = Layout::new(2, 0, &scripts.each_ref().map(|script| &script[..])).bytes();
+    let first = [0, 0, 1, 1, 2, 2, 3, 3];
+    for (second, pairs, entries, names) in [
+        (
+            [3, 3, 2, 2, 1, 1, 0, 0],
+            14,
+            (3, 5),
+            [step(1, 1), step(2, 1)],
+        ),
+        (
+            [3, 3, 0, 0, 1, 1, 2, 2],
+            23,
+            (1, 7),
+            [step(0, 1), step(3, 1)],
+        ),
+    ] {
+        for answer in [same, prefix] {
+            let answer = answer(&table, &first, &second).unwrap();
+            assert_eq!((answer.verdict, answer.pairs), (Different, pairs));
+            assert_eq!(answer.entries(), Some(entries));
+            assert_eq!(answer.opposed, Some(names));
+        }
+    }
+    let answer = same(&table, &first, &[0, 1, 2, 3, 0, 1, 2, 3]).unwrap();
+    assert_eq!((answer.verdict, answer.pairs), (Same, 28));
+    assert_eq!((answer.entries(), answer.opposed), (None, None));
 }
 
 #[test]

@@ -68,6 +68,11 @@ impl Footprint {
         }
     }
 
+    /// The marks without the actor's number.
+    pub fn touched(&self) -> u64 {
+        self.marks & !ACTOR
+    }
+
     /// Whether the two steps are dependent.
     pub fn dependent(&self, other: &Self) -> bool {
         let of_one_actor = (self.marks ^ other.marks) & ACTOR == 0;

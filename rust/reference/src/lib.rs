@@ -15,8 +15,8 @@
 //! - [`report`], [`mod@run`], [`mod@page`]: the state report, the run and the page;
 //! - [`mod@make`], [`mod@draw`]: schedules that are made, refusal 23, and the one that a seed determines;
 //! - [`mod@pair`]: the pair verdict, by its five cases;
-//! - [`trace`], [`mod@same`], [`mod@route`]: an accepted schedule's steps, the same verdict by normal
-//!   forms, and the exchange route;
+//! - [`trace`], [`mod@same`], [`mod@compared`], [`mod@route`]: an accepted schedule's steps, the same
+//!   verdict by normal forms, how many pairs it compares, and the exchange route;
 //! - [`mod@prefix`], [`mod@remainder`]: the same verdict on what two recordings both have, and what is left
 //!   of the longer;
 //! - [`search`] and [`mod@replay`]: the same verdict by searching all chains, and a route replayed;
@@ -39,15 +39,16 @@
 //! compared beforehand), the page (Rust's own formatting), a draw (numbers of 64 bits, so that nothing runs
 //! over before the remainder is taken, and a list of the ready actors), dependence (the
 //! five cases as the documents have them, without a table of codes), the same verdict (normal forms; on
-//! short schedules also a search through all chains), and where the longer of two recordings is cut
-//! (entry by entry, without looking at a length). [`quick`], which is measured and not compared, works as
-//! the proved engine does.
+//! short schedules also a search through all chains), how many pairs are compared (one by one, with no
+//! formula), and where the longer of two recordings is cut (entry by entry, without looking at a length).
+//! [`quick`], which is measured and not compared, is made as a Rust program for speed would be.
 
 #![forbid(unsafe_code)]
 
 pub mod action;
 pub mod actor;
 pub mod communication;
+pub mod compared;
 pub mod draw;
 pub mod follow;
 pub mod footprint;
@@ -93,7 +94,7 @@ pub use replay::{replay, replay_stepping};
 pub use report::REPORT_ROOM;
 pub use route::route;
 pub use run::run;
-pub use same::same;
+pub use same::{Same, same};
 pub use search::chain_exists;
 pub use site::Site;
 pub use status::Status;

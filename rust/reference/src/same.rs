@@ -1,6 +1,7 @@
 //! The same verdict: whether a chain of exchanges turns one schedule into another. Decided by normal
-//! forms, not by looking for pairs in opposite orders.
+//! forms, not by looking for pairs in opposite orders; the number of pairs is counted beside it.
 
+use crate::compared::compared;
 use crate::follow::Schedule;
 use crate::name::Name;
 use crate::pair::dependent;
@@ -9,12 +10,24 @@ use crate::refusal::Refusal;
 use crate::table::Table;
 use crate::trace::Trace;
 
-/// Whether two accepted schedules are the same: refusals 1 to 9, then 11 to 13 and 21 for the
-/// first, then 14 to 16 and 22 for the second.
-pub fn same(table: &[u8], first: &[u8], second: &[u8]) -> Result<bool, Refusal> {
+/// What the same verdict answers.
+#[derive(Clone, Copy, PartialEq, Eq, Debug)]
+pub struct Same {
+    /// Whether the two are the same.
+    pub is_same: bool,
+    /// How many pairs of entries of the first are compared.
+    pub pairs: u32,
+}
+
+/// Whether two accepted schedules are the same, and how many pairs are compared: refusals 1 to 9, then
+/// 11 to 13 and 21 for the first, then 14 to 16 and 22 for the second.
+pub fn same(table: &[u8], first: &[u8], second: &[u8]) -> Result<Same, Refusal> {
     let table = check(table)?;
     let (first, second) = traces(&table, first, second)?;
-    Ok(same_traces(&table, &first, &second))
+    Ok(Same {
+        is_same: same_traces(&table, &first, &second),
+        pairs: compared(&table, first.names(), second.names()).pairs,
+    })
 }
 
 /// Steps the first schedule whole, then the second.

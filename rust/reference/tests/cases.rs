@@ -2,7 +2,7 @@
 
 mod common;
 
-use common::{A, after, refused, report};
+use common::{A, after, refused, report, same_after};
 use reference::{Ending, Ready, pair, ready, route, run, same};
 
 fn run_refused(schedule: &[u8]) -> (u32, u32) {
@@ -63,7 +63,7 @@ fn case_g() {
 #[test]
 fn case_h() {
     let (first, second) = ([0, 0, 1, 1], [1, 0, 0, 1]);
-    assert_eq!(same(&A, &first, &second), Ok(true));
+    assert_eq!(same(&A, &first, &second), same_after(6));
     let mut positions = [9; 7];
     assert_eq!(route(&A, &first, &second, &mut positions), Ok(2));
     assert_eq!(positions, [1, 0, 9, 9, 9, 9, 9]);

@@ -66,7 +66,7 @@ fn a_value_that_was_received() {
 fn two_orders_of_two_notes() {
     let table = table(&[&[set(0, 1), note(0)], &[set(0, 2), note(0)]]);
     let (one, other) = ([0, 0, 1, 1], [0, 1, 1, 0]);
-    assert_eq!(same(&table, &one, &other), Ok(false));
+    assert_eq!(same(&table, &one, &other), different_after(5));
     assert_ne!(report(&table, &one), report(&table, &other));
     assert_eq!(
         journal(&table, &one, 2),
@@ -77,7 +77,7 @@ fn two_orders_of_two_notes() {
         [2, 0, 1, 1, 2, 0, 0, 0, 0, 1, 1, 0, 0, 0]
     );
     // A Note and another actor's Set may trade places.
-    assert_eq!(same(&table, &one, &[0, 1, 0, 1]), Ok(true));
+    assert_eq!(same(&table, &one, &[0, 1, 0, 1]), same_after(6));
     assert_eq!(report(&table, &one), report(&table, &[0, 1, 0, 1]));
 }
 

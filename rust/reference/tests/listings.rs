@@ -1,6 +1,9 @@
 //! The listings that `tests/turns` and `examples` expect of the listing program, against those that
 //! follow from the reference; and what the example's text says of its three orders.
 
+mod common;
+
+use common::{different_after, same_after};
 use reference::follow::{Schedule, follow};
 use reference::site::Site;
 use reference::{Ending, Ready, Refusal, check, same};
@@ -91,6 +94,6 @@ fn the_forecourt() {
         site.actor(2).cells[0]
     };
     assert_eq!([&first, &second, &third].map(|s| price(s)), [145, 139, 145]);
-    assert_eq!(same(&table, &first, &second), Ok(false));
-    assert_eq!(same(&table, &first, &third), Ok(true));
+    assert_eq!(same(&table, &first, &second), different_after(5));
+    assert_eq!(same(&table, &first, &third), same_after(15));
 }

@@ -3,17 +3,17 @@
 
 mod common;
 
-use common::{A, refused, table};
-use reference::{Refusal, Schedule, prefix, quick, remainder, same};
+use common::{A, different_after, refused, same_after, table};
+use reference::{Refusal, Same, Schedule, prefix, quick, remainder, same};
 use std::ptr;
-use tables::action::{add, set};
+use tables::action::{add, send, set};
 
-/// The verdict on table A, by both ways.
-fn verdict(first: &[u8], second: &[u8]) -> Result<bool, Refusal> {
+/// The answer on table A, by both ways.
+fn verdict(first: &[u8], second: &[u8]) -> Result<Same, Refusal> {
     of(&A, first, second)
 }
 
-fn of(table: &[u8], first: &[u8], second: &[u8]) -> Result<bool, Refusal> {
+fn of(table: &[u8], first: &[u8], second: &[u8]) -> Result<Same, Refusal> {
     let answer = prefix(table, first, second);
     assert_eq!(quick::prefix(table, first, second), answer);
     answer
@@ -22,13 +22,25 @@ fn of(table: &[u8], first: &[u8], second: &[u8]) -> Result<bool, Refusal> {
 #[test]
 fn the_first_entries_are_kept() {
     let (whole, begun) = ([0, 0, 1, 1], [1, 0, 0]);
-    assert_eq!(verdict(&whole, &begun), Ok(true));
-    assert_eq!(verdict(&begun, &whole), Ok(true));
-    assert_eq!(same(&A, &whole, &begun), Ok(false));
+    assert_eq!(verdict(&whole, &begun), same_after(3));
+    assert_eq!(verdict(&begun, &whole), same_after(3));
+    assert_eq!(same(&A, &whole, &begun), different_after(0));
     // The last three of the whole would be refused.
     assert_eq!(refused(same(&A, &whole[1..], &begun)), (13, 2));
-    assert_eq!(verdict(&whole, &[1, 0]), Ok(false));
-    assert_eq!(verdict(&[1, 0], &whole), Ok(false));
+    assert_eq!(verdict(&whole, &[1, 0]), different_after(0));
+    assert_eq!(verdict(&[1, 0], &whole), different_after(0));
+}
+
+#[test]
+fn pairs_of_the_first_entries() {
+    let sends = table(&[&[send(0, 0), send(0, 0)], &[send(0, 0)]]);
+    let whole = [0, 0, 1];
+    assert_eq!(of(&sends, &whole, &[0, 1]), different_after(0));
+    assert_eq!(of(&sends, &whole, &[0, 0]), same_after(1));
+    assert_eq!(of(&sends, &whole, &[0, 1, 0, 9]), different_after(3));
+    assert_eq!(of(&sends, &whole, &[1, 0, 0, 9]), different_after(2));
+    assert_eq!(of(&sends, &[1, 0, 0, 9], &whole), different_after(1));
+    assert_eq!(of(&sends, &whole, &whole), same_after(3));
 }
 
 #[test]
@@ -41,9 +53,9 @@ fn with_equal_lengths_the_same_verdict() {
 
 #[test]
 fn an_empty_recording() {
-    assert_eq!(verdict(&[], &[]), Ok(true));
-    assert_eq!(verdict(&[], &[255; 300]), Ok(true));
-    assert_eq!(verdict(&[255; 300], &[]), Ok(true));
+    assert_eq!(verdict(&[], &[]), same_after(0));
+    assert_eq!(verdict(&[], &[255; 300]), same_after(0));
+    assert_eq!(verdict(&[255; 300], &[]), same_after(0));
     assert_eq!(refused(of(&A[..43], &[], &[0])), (5, 0));
 }
 
@@ -62,8 +74,8 @@ fn a_bad_entry_before_the_cut_and_after_it() {
         assert_eq!(refused(of(table, good, bad)), (second, 1));
         assert_eq!(refused(of(table, bad, &longer)), (first, 1));
         assert_eq!(refused(of(table, &longer, bad)), (second, 1));
-        assert_eq!(of(table, bad, &good[..1]), Ok(true));
-        assert_eq!(of(table, &good[..1], bad), Ok(true));
+        assert_eq!(of(table, bad, &good[..1]), same_after(0));
+        assert_eq!(of(table, &good[..1], bad), same_after(0));
         assert_eq!(refused(same(table, bad, &good[..1])), (first, 1));
         assert_eq!(refused(same(table, &good[..1], bad)), (second, 1));
     }

@@ -3,10 +3,13 @@
 mod common;
 
 use common::*;
+use reference::compared::{Compared, compared};
 use reference::footprint::Footprint;
 use reference::pair::dependent;
 use reference::route::room;
-use reference::{Name, chain_exists, check, pair, quick, replay, replay_stepping, route, same};
+use reference::trace::Trace;
+use reference::{Name, Same, Schedule, Table, chain_exists, check, pair, quick, replay};
+use reference::{replay_stepping, route, same};
 use tables::action::*;
 
 /// Whether the last actions of two actors are dependent. Each actor first receives from mailbox 0
@@ -110,14 +113,81 @@ fn footprints_agree_with_the_cases() {
 #[test]
 fn same_and_different() {
     let table = table(&[&[send(0, 0), set(1, 1)], &[send(0, 0), set(1, 1)]]);
-    assert_eq!(same(&table, &[], &[]), Ok(true));
-    assert_eq!(same(&table, &[0, 1, 0, 1], &[0, 1, 1, 0]), Ok(true));
-    assert_eq!(same(&table, &[0, 0, 1, 1], &[0, 1, 1, 0]), Ok(true));
-    assert_eq!(same(&table, &[0, 1], &[1, 0]), Ok(false));
-    // Other names, other lengths.
-    assert_eq!(same(&table, &[0, 0], &[0, 1]), Ok(false));
-    assert_eq!(same(&table, &[0, 1], &[0, 1, 0]), Ok(false));
-    assert_eq!(same(&table, &[], &[0]), Ok(false));
+    assert_eq!(same(&table, &[], &[]), same_after(0));
+    assert_eq!(same(&table, &[0], &[0]), same_after(0));
+    assert_eq!(same(&table, &[0, 1, 0, 1], &[0, 1, 1, 0]), same_after(6));
+    assert_eq!(same(&table, &[0, 0, 1, 1], &[0, 1, 1, 0]), same_after(6));
+    assert_eq!(same(&table, &[0, 1], &[1, 0]), different_after(1));
+    // Other names, other lengths, with the Sends in opposite orders or not.
+    assert_eq!(same(&table, &[0, 0], &[0, 1]), different_after(0));
+    assert_eq!(same(&table, &[0, 1, 0], &[1, 0, 1]), different_after(0));
+    assert_eq!(same(&table, &[0, 1], &[0, 1, 0]), different_after(0));
+    assert_eq!(same(&table, &[0, 1, 0], &[1, 0]), different_after(0));
+    assert_eq!(same(&table, &[], &[0]), different_after(0));
+}
+
+#[test]
+fn pairs_by_rising_later_step() {
+    // Actors 1 and 2 send to mailbox 1, actors 0 and 3 to mailbox 0.
+    let apart = [
+        &[send(0, 0)][..],
+        &[send(1, 0)],
+        &[send(1, 0)],
+        &[send(0, 0)],
+    ];
+    let bytes = table(&apart);
+    // Pairs in turn: 01, 02, 12, 03, 13, 23.
+    let first = [0, 1, 2, 3];
+    for (second, pairs) in [
+        ([3, 2, 1, 0], 3),
+        ([3, 0, 1, 2], 4),
+        ([0, 2, 1, 3], 3),
+        ([3, 2, 0, 1], 3),
+        ([1, 3, 2, 0], 4),
+    ] {
+        assert_eq!(same(&bytes, &first, &second), different_after(pairs));
+        assert_eq!(quick::same(&bytes, &first, &second), different_after(pairs));
+    }
+    for second in [[1, 2, 0, 3], [0, 1, 3, 2], [1, 0, 3, 2]] {
+        assert_eq!(same(&bytes, &first, &second), same_after(6));
+    }
+    // By the other schedule's entries it is another pair: 01, 02, then 12, which are actors 3, 0, 1 and 2.
+    assert_eq!(same(&bytes, &[3, 0, 1, 2], &first), different_after(1));
+}
+
+#[test]
+fn pairs_by_rising_earlier_step() {
+    let sender = [send(0, 0)];
+    let bytes = table(&[&sender, &sender, &sender, &sender]);
+    for (second, pairs) in [
+        ([1, 0, 2, 3], 1),
+        ([2, 0, 1, 3], 2),
+        ([0, 2, 1, 3], 3),
+        ([3, 0, 1, 2], 4),
+        ([0, 3, 1, 2], 5),
+        ([0, 1, 3, 2], 6),
+        ([3, 0, 2, 1], 3),
+    ] {
+        assert_eq!(same(&bytes, &[0, 1, 2, 3], &second), different_after(pairs));
+    }
+    assert_eq!(same(&bytes, &[0, 1, 2, 3], &[0, 1, 2, 3]), same_after(6));
+}
+
+#[test]
+fn pairs_of_256_entries() {
+    let script = [send(0, 0); 32];
+    let bytes = table(&[&script[..]; 8]);
+    let first: Vec<u8> = (0..256).map(|entry| (entry % 8) as u8).collect();
+    for (k, pairs) in [(0, 1), (1, 3), (100, 5_151), (254, 32_640)] {
+        let mut second = first.clone();
+        second.swap(k, k + 1);
+        for answer in [same, quick::same] {
+            assert_eq!(answer(&bytes, &first, &second), different_after(pairs));
+        }
+    }
+    for answer in [same, quick::same] {
+        assert_eq!(answer(&bytes, &first, &first), same_after(32_640));
+    }
 }
 
 #[test]
@@ -174,16 +244,33 @@ fn accepted(table: &[u8], length: usize) -> Vec<Vec<u8>> {
     schedules
 }
 
-/// The rule, the search through all chains and the route, on all pairs of schedules of a length.
+/// The verdict and the count, each made without the other: "same" exactly where the steps are the same and
+/// no pair ends the search.
+fn counted(table: &Table, first: &[u8], second: &[u8], answer: Same) {
+    let [first, second] = [first, second].map(|schedule| {
+        let trace = Trace::of(table, Schedule::First, schedule);
+        trace.unwrap().names().to_vec()
+    });
+    let Compared { pairs, ended } = compared(table, &first, &second);
+    let same_steps = first.iter().all(|name| second.contains(name));
+    assert_eq!(answer.is_same, same_steps && !ended);
+    assert_eq!(answer.pairs, pairs);
+    assert_eq!(ended, same_steps && !answer.is_same);
+}
+
+/// The rule, the search through all chains, the number of pairs and the route, on all pairs of schedules of
+/// a length.
 fn all_pairs(actors: &[&[[u8; 8]]], length: usize) {
     let bytes = table(actors);
     let table = check(&bytes).unwrap();
     let schedules = accepted(&bytes, length);
     for first in &schedules {
         for second in &schedules {
-            let verdict = same(&bytes, first, second).unwrap();
+            let answer = same(&bytes, first, second).unwrap();
+            let verdict = answer.is_same;
             assert_eq!(verdict, chain_exists(&table, first, second));
-            assert_eq!(quick::same(&bytes, first, second), Ok(verdict));
+            assert_eq!(quick::same(&bytes, first, second), Ok(answer));
+            counted(&table, first, second, answer);
             let mut positions = vec![7; room(length) + 1];
             let mut quickly = positions.clone();
             let answer = route(&bytes, first, second, &mut positions);

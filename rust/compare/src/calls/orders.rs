@@ -4,24 +4,38 @@ use reference::trace::Trace;
 use reference::{Name, Schedule, Table};
 use tables::Kind;
 
-/// The pairs that two accepted schedules run in opposite orders, each with the earlier of the first schedule
-/// first; none where the steps are others.
-pub fn opposed(table: &Table, first: &[u8], second: &[u8]) -> Vec<(Name, Name)> {
-    let [first, second] = [first, second].map(|schedule| {
-        let trace = Trace::of(table, Schedule::First, schedule);
-        trace.expect("the schedule is accepted").names().to_vec()
-    });
-    let place = |name: Name| second.iter().position(|&other| other == name);
-    let mut pairs = Vec::new();
-    if first.len() != second.len() || first.iter().any(|&name| place(name).is_none()) {
-        return pairs;
-    }
-    for (later, &other) in first.iter().enumerate() {
+/// The steps of an accepted schedule.
+pub fn names(table: &Table, schedule: &[u8]) -> Vec<Name> {
+    let trace = Trace::of(table, Schedule::First, schedule);
+    trace.expect("the schedule is accepted").names().to_vec()
+}
+
+/// Whether two schedules run the same steps. None comes twice in one.
+pub fn same_steps(first: &[Name], second: &[Name]) -> bool {
+    let places = places(second);
+    first.len() == second.len() && first.iter().all(|name| places[name.index()].is_some())
+}
+
+/// The pairs that two schedules of the same steps run in opposite orders, each with the earlier of the first
+/// schedule first: by rising later one, then by rising earlier one.
+pub fn opposed(first: &[Name], second: &[Name]) -> impl Iterator<Item = (Name, Name)> {
+    let places = places(second);
+    let place = move |name: Name| places[name.index()];
+    let later = first.iter().enumerate();
+    later.flat_map(move |(later, &other)| {
         let earlier = first[..later].iter().copied();
-        let opposed = earlier.filter(|&one| place(one) > place(other));
-        pairs.extend(opposed.map(|one| (one, other)));
+        let opposed = earlier.filter(move |&one| place(one) > place(other));
+        opposed.map(move |one| (one, other))
+    })
+}
+
+/// Where each step stands in a schedule, by name.
+fn places(schedule: &[Name]) -> [Option<usize>; Name::COUNT] {
+    let mut places = [None; Name::COUNT];
+    for (place, name) in schedule.iter().enumerate() {
+        places[name.index()] = Some(place);
     }
-    pairs
+    places
 }
 
 /// The kinds of two steps.

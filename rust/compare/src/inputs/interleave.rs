@@ -2,8 +2,9 @@
 
 use crate::inputs::rng::Rng;
 use crate::inputs::walk::Walk;
+use reference::pair::dependent;
 use reference::trace::Trace;
-use reference::{Schedule, Table};
+use reference::{Name, Schedule, Table};
 
 /// A same schedule, by random exchanges.
 pub fn exchanged(rng: &mut Rng, table: &Table, schedule: &[u8]) -> Vec<u8> {
@@ -33,13 +34,38 @@ pub fn twisted(rng: &mut Rng, table: &Table, schedule: &[u8]) -> Option<Vec<u8>>
         .collect();
     while !open.is_empty() {
         let k = open.swap_remove(rng.below(open.len()));
-        let mut twisted = way.clone();
-        twisted.swap(k, k + 1);
-        if Trace::of(table, Schedule::First, &twisted).is_ok() {
+        if let Some(twisted) = opposed_at(table, first.names(), k, k + 1) {
             return Some(exchanged(rng, table, &twisted));
         }
     }
     None
+}
+
+/// A schedule that differs from that of these steps by the order of steps `i` and `j` alone, which are
+/// dependent and of different actors. None where a step between them keeps them apart, or the change is not
+/// accepted.
+pub fn opposed_at(table: &Table, names: &[Name], i: usize, j: usize) -> Option<Vec<u8>> {
+    if names[i].actor() == names[j].actor() || !dependent(table, names[i], names[j]) {
+        return None;
+    }
+    let (mut before, mut after) = (Vec::new(), vec![names[i]]);
+    for &between in &names[i + 1..j] {
+        match after.iter().any(|&step| dependent(table, step, between)) {
+            true => after.push(between),
+            false => before.push(between),
+        }
+    }
+    if after[1..]
+        .iter()
+        .any(|&step| dependent(table, step, names[j]))
+    {
+        return None;
+    }
+    let parts = [&names[..i], &before, &names[j..=j], &after, &names[j + 1..]];
+    let actors = parts.concat().into_iter().map(|name| name.actor() as u8);
+    let schedule: Vec<u8> = actors.collect();
+    Trace::of(table, Schedule::First, &schedule).ok()?;
+    Some(schedule)
 }
 
 /// Another interleaving of the same steps, same or different. None where the random one gets stuck.

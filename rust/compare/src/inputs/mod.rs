@@ -6,8 +6,8 @@
 //! - [`contended`], [`walk`], [`entries`]: tables made for stepping, accepted schedules, and
 //!   schedules with a refused entry;
 //! - [`interleave`]: from one schedule to another with the same steps;
-//! - [`steps`], [`twins`]: tables with one schedule or with two; [`recordings`]: those with two that need
-//!   not end together; [`deep`]: those with full queues; [`notes`]: those whose journal grows;
+//! - [`steps`], [`twins`]: tables with one schedule or with two; [`opposed`]: those with two that differ first
+//!   at a given pair; [`recordings`]: those with two that need not end together; [`deep`]: those with full queues; [`notes`]: those whose journal grows;
 //!   [`digits`]: those whose cells hold numbers of every length; [`totals`]: those whose sums come to
 //!   the most that a cell holds;
 //! - [`sites`], [`seeds`]: tables of every family, and seeds, for the calls that make a schedule;
@@ -23,6 +23,7 @@ pub mod families;
 pub mod interleave;
 pub mod mix;
 pub mod notes;
+pub mod opposed;
 pub mod recordings;
 pub mod rng;
 pub mod sample;

@@ -32,6 +32,9 @@ first into the second, so that both end in the same state. Of different ones it 
 only one of them runs, and the first dependent pair of steps that they run in opposite orders: the one
 whose later step comes first in FIRST, and of several such the one whose earlier step does.
 
+Pairs of entries of FIRST are compared in that order, up to the pair named, and the second line says
+how many: all of them of schedules that are the same, none where the lengths or the steps differ.
+
 With --prefix the two are recordings that need not end together. The longer is held to the length of
 the shorter, and the answer is about those parts; it also says how many entries are left over. These
 are not stepped, so that none of them is refused.",
@@ -41,6 +44,7 @@ are not stepped, so that none of them is refused.",
         line: "order same loyalty-first/site.tab loyalty-first/order.sch fleet-first/order.sch",
         output: "\
 different
+pairs compared: 5
 0.1 Send to mailbox 0 and 1.1 Send to mailbox 0 run in opposite orders (entries count from 0):
   first schedule: entry 1 is 0.1, entry 3 is 1.1
   second schedule: entry 1 is 1.1, entry 3 is 0.1
@@ -68,15 +72,16 @@ fn run(given: &Given) -> Result<Answer, Failure> {
         }
         false => (&first[..], &second[..], String::new()),
     };
+    let compared = format!("pairs compared: {}\n", answer.pairs);
     Ok(Answer::of(match answer.verdict {
-        SameVerdict::Same => format!("same\n{left}"),
+        SameVerdict::Same => format!("same\n{compared}{left}"),
         SameVerdict::Different => {
             let pairs = match given.has(&ALL) {
                 true => Pairs::All,
                 false => Pairs::First,
             };
-            let words = difference(&table, first, second, pairs);
-            format!("different\n{left}{words}")
+            let words = difference(&table, first, second, &answer, pairs);
+            format!("different\n{compared}{left}{words}")
         }
     }))
 }

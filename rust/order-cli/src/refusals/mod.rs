@@ -13,7 +13,7 @@ use crate::difference::{Pairs, difference};
 use crate::schedule::Schedule;
 use crate::state::State;
 use crate::table::Table;
-use order_engine::{Reason, Refusal, StepName};
+use order_engine::{Reason, Refusal, StepName, same};
 use tables::Layout;
 
 /// What a call was asked about.
@@ -105,11 +105,19 @@ pub fn pointed(refusal: Refusal, asked: &Asked) -> String {
         | Reason::SecondOver => of_entry(asked, asked.second, index),
         Reason::NoStep => of_table(asked, |table| name::words(&table.layout, asked.steps)),
         Reason::Different => of_table(asked, |table| match (asked.first, asked.second) {
-            (Some(first), Some(second)) => difference(table, first, second, Pairs::First),
+            (Some(first), Some(second)) => difference_of(table, first, second),
             _ => String::new(),
         }),
         _ => String::new(),
     }
+}
+
+/// How two accepted schedules differ.
+fn difference_of(table: &Table, first: &[u8], second: &[u8]) -> String {
+    let answer = same(&table.bytes, first, second).ok();
+    answer.map_or_else(String::new, |answer| {
+        difference(table, first, second, &answer, Pairs::First)
+    })
 }
 
 /// Words about an accepted table.

@@ -2,7 +2,7 @@
 
 #![allow(dead_code, unused_imports)]
 
-use reference::{Refusal, Site, check, follow, run};
+use reference::{Refusal, Same, Site, check, follow, run};
 pub use tables::TABLE_A as A;
 use tables::{Action, Layout};
 
@@ -35,6 +35,18 @@ pub fn written(call: Writes, room: usize, table: &[u8], schedule: &[u8]) -> Vec<
     assert!(buffer[length..].iter().all(|&byte| byte == 0xa5));
     buffer.truncate(length);
     buffer
+}
+
+/// An answer of the same verdict: "same", and how many pairs were compared.
+pub fn same_after(pairs: u32) -> Result<Same, Refusal> {
+    let is_same = true;
+    Ok(Same { is_same, pairs })
+}
+
+/// Likewise "different".
+pub fn different_after(pairs: u32) -> Result<Same, Refusal> {
+    let is_same = false;
+    Ok(Same { is_same, pairs })
 }
 
 /// Number and position of a refusal.

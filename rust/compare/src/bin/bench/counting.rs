@@ -30,7 +30,7 @@ impl Counts {
         println!("\ninstructions per call");
         for (row, (engine, reference)) in rows.iter().zip(self.rows()) {
             println!(
-                "{:<8}{:<14}{engine:>10.0}{reference:>11.0}{:>8.2}",
+                "{:<23}{:<14}{engine:>10.0}{reference:>11.0}{:>8.2}",
                 row.call,
                 row.load,
                 engine / reference

@@ -33,7 +33,7 @@ impl Timing {
             "nanoseconds per call, least of {ROUNDS} rounds, and the median of the rounds' ratios"
         );
         println!(
-            "{:<8}{:<14}{:>10}{:>11}{:>8}",
+            "{:<23}{:<14}{:>10}{:>11}{:>8}",
             "call", "table", "engine", "reference", "ratio"
         );
         Self { rows: Vec::new() }
@@ -76,7 +76,7 @@ impl Measure for Timing {
             ratio: median(&mut ratios),
         };
         println!(
-            "{call:<8}{:<14}{:>10.1}{:>11.1}{:>8.2}",
+            "{call:<23}{:<14}{:>10.1}{:>11.1}{:>8.2}",
             row.load, row.engine, row.reference, row.ratio
         );
         self.rows.push(row);

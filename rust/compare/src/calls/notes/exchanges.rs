@@ -2,7 +2,7 @@
 //! met.
 
 use super::has_notes;
-use crate::calls::orders::{kinds, opposed};
+use crate::calls::orders::{kinds, names, opposed, same_steps};
 use crate::harness::demands::Demands;
 use crate::harness::tally::Tally;
 use reference::check;
@@ -34,7 +34,11 @@ pub fn note(tally: &mut Tally, [table, first, second]: [&[u8]; 3], are_same: boo
     if first.len() > LONGEST || !has_notes(&table) {
         return;
     }
-    let pairs = opposed(&table, first, second);
+    let [first, second] = [first, second].map(|schedule| names(&table, schedule));
+    if !same_steps(&first, &second) {
+        return;
+    }
+    let pairs: Vec<_> = opposed(&first, &second).collect();
     let all: BTreeSet<(Kind, Kind)> = pairs.iter().map(|&pair| kinds(&table, pair)).collect();
     if are_same {
         for (one, other) in all {

@@ -1,10 +1,10 @@
-//! The same verdict on two recordings as far as both go: those parts are held to what two schedules are by
-//! the same verdict.
+//! The same verdict on two recordings as far as both go, and the number of pairs compared: those parts are
+//! held to what two schedules are by the same verdict.
 
 mod cut;
 
 use crate::calls::notes::exchanges;
-use crate::calls::{lengths, same, totals};
+use crate::calls::{compared, lengths, same, totals};
 use crate::harness::asked::Asked;
 use crate::harness::call::Call;
 use crate::harness::slots::{
@@ -18,7 +18,7 @@ use reference::{Reason, quick};
 /// The same verdict on recordings.
 pub const CALL: Call = Call {
     name: "prefix",
-    about: "the same verdict on two recordings as far as both go",
+    about: "the same verdict and the pairs compared, of two recordings as far as both go",
     slots: Slots {
         read: &[TABLE, FIRST_RECORDING, SECOND_RECORDING],
         numbers: &[],
@@ -27,7 +27,7 @@ pub const CALL: Call = Call {
     refusals: same::CALL.refusals,
     cases: 130_000,
     next: |rng, input| input.read = recordings::any(rng).slices(),
-    sweep: totals::sweep_two,
+    sweep: compared::sweep,
     engine: |lent| {
         let [table, first, second] = lent.read;
         order_engine::prefix::fields(table, first, second).into()
@@ -35,7 +35,7 @@ pub const CALL: Call = Call {
     reference: |lent: Lent| {
         let [table, first, second] = lent.read;
         let answer = reference::prefix(table, first, second);
-        answer.map(|same| [u32::from(same)]).into()
+        answer.map(same::numbers).into()
     },
     mistake: |asked| same::mistake(asked, parts(asked.input)),
     note,
@@ -46,6 +46,7 @@ pub const CALL: Call = Call {
             .refused(&Reason::OF_FIRST, 1_000)
             .refused(&Reason::OF_SECOND, 1_000);
         let demands = exchanges::demands(demands, 50);
+        let demands = compared::corners::demands(demands, 10);
         cut::demands(lengths::demands(demands, 10))
     },
 };
@@ -62,7 +63,9 @@ fn note(tally: &mut Tally, asked: &Asked) {
     lengths::note(tally, first, second);
     totals::note_stepped(tally, asked, parts(asked.input));
     if asked.accepted() {
-        exchanges::note(tally, parts(asked.input), asked.reference.values[0] == 1);
+        let [verdict, pairs, _] = asked.reference.values;
+        compared::corners::note(tally, [verdict, pairs], parts(asked.input));
+        exchanges::note(tally, parts(asked.input), verdict == 1);
     }
     cut::note(tally, asked);
 }
@@ -72,13 +75,7 @@ pub fn measure(measure: &mut impl Measure, load: &Load) {
     measure.measure(
         CALL.name,
         load,
-        |work| {
-            let answer = order_engine::prefix(&work.table, &work.first, &work.begun);
-            usize::from(answer.is_ok_and(|same| same.is_same()))
-        },
-        |work| {
-            let verdict = quick::prefix(&work.table, &work.first, &work.begun);
-            usize::from(verdict == Ok(true))
-        },
+        |work| same::by_engine(order_engine::prefix::fields(&work.table, &work.first, &work.begun)),
+        |work| same::by_reference(quick::prefix(&work.table, &work.first, &work.begun)),
     );
 }

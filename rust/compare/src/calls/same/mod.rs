@@ -1,23 +1,25 @@
-//! The same verdict; on short schedules also held to a search through all chains. Where it says
-//! "same", both schedules must lead to one report and one ready answer.
+//! The same verdict and the number of pairs compared. The verdict is on short schedules also held to a search
+//! through all chains; where it says "same", both schedules must lead to one report and one ready answer. The
+//! number is held to the pair that it tells.
 
+pub mod differing;
 mod reversed;
 
 use crate::calls::notes::{exchanges, journal};
-use crate::calls::totals;
+use crate::calls::{compared, totals};
 use crate::harness::asked::Asked;
 use crate::harness::call::Call;
 use crate::harness::slots::{Buffer, FIRST, Lent, SECOND, Slots, TABLE};
 use crate::harness::tally::Tally;
 use crate::inputs::twins::Twins;
 use crate::workload::{Load, Measure};
-use order_engine::REPORT_ROOM;
-use reference::{Reason, chain_exists, check, quick};
+use order_engine::{Fields, REPORT_ROOM, same};
+use reference::{Reason, Refusal, Same, chain_exists, check, quick};
 
 /// The same verdict.
 pub const CALL: Call = Call {
     name: "same",
-    about: "the same verdict",
+    about: "the same verdict and the pairs compared",
     slots: Slots {
         read: &[TABLE, FIRST, SECOND],
         numbers: &[],
@@ -26,7 +28,7 @@ pub const CALL: Call = Call {
     refusals: &[&Reason::OF_TABLE, &Reason::OF_FIRST, &Reason::OF_SECOND],
     cases: 130_000,
     next: |rng, input| input.read = Twins::any(rng).slices(),
-    sweep: totals::sweep_two,
+    sweep: compared::sweep,
     engine: |lent| {
         let [table, first, second] = lent.read;
         order_engine::same::fields(table, first, second).into()
@@ -34,7 +36,7 @@ pub const CALL: Call = Call {
     reference: |lent: Lent| {
         let [table, first, second] = lent.read;
         let answer = reference::same(table, first, second);
-        answer.map(|same| [u32::from(same)]).into()
+        answer.map(numbers).into()
     },
     mistake: |asked| mistake(asked, asked.input.slices()),
     note,
@@ -43,6 +45,8 @@ pub const CALL: Call = Call {
         let tenth = tally.noted(DIFFERENT) / 10;
         let demands = journal::demands(demands, 20);
         let demands = exchanges::demands(demands, 50);
+        let demands = compared::corners::demands(demands, 10);
+        let demands = compared::corners::demands_of_lengths(demands, 10);
         totals::demands(demands, &[Reason::Over, Reason::SecondOver], 100)
             .accepted(100_000)
             .refused(&Reason::OF_TABLE, 100)
@@ -69,14 +73,23 @@ const SEARCHED_SAME: &str = "same, all chains searched";
 const SEARCHED_DIFFERENT: &str = "different, all chains searched";
 const LONG: &str = "of 256 entries";
 
-/// Unequal answers to whether these two schedules are the same; a search through all chains that finds
-/// otherwise; two ends of one run.
+/// An answer as the C struct has it.
+pub fn numbers(answer: Same) -> [u32; 2] {
+    [u32::from(answer.is_same), answer.pairs]
+}
+
+/// Unequal answers to whether these two schedules are the same; a number that tells another pair than the
+/// first in opposite orders; a search through all chains that finds otherwise; two ends of one run.
 pub fn mistake(asked: &Asked, [table, first, second]: [&[u8]; 3]) -> Option<String> {
     let unequal = asked.unequal();
     if unequal.is_some() || !asked.accepted() {
         return unequal;
     }
-    let same = asked.reference.values[0] == 1;
+    let [verdict, pairs, _] = asked.engine.values;
+    if let Some(wrong) = compared::told::wrong(verdict, pairs, [table, first, second]) {
+        return Some(wrong);
+    }
+    let same = verdict == 1;
     if searched(first) {
         let table = check(table).expect("the table is accepted");
         let found = chain_exists(&table, first, second);
@@ -116,7 +129,9 @@ fn note(tally: &mut Tally, asked: &Asked) {
         return;
     }
     let [table, first, second] = &asked.input.read;
-    let same = asked.reference.values[0] == 1;
+    let [verdict, pairs, _] = asked.reference.values;
+    let same = verdict == 1;
+    compared::corners::note(tally, [verdict, pairs], asked.input.slices());
     journal::note(tally, table, first);
     exchanges::note(tally, asked.input.slices(), same);
     tally.note(if same { SAME } else { DIFFERENT });
@@ -155,13 +170,19 @@ pub fn measure(measure: &mut impl Measure, load: &Load) {
     measure.measure(
         CALL.name,
         load,
-        |work| {
-            let answer = order_engine::same(&work.table, &work.first, &work.second);
-            usize::from(answer.is_ok_and(|same| same.is_same()))
-        },
-        |work| {
-            let verdict = quick::same(&work.table, &work.first, &work.second);
-            usize::from(verdict == Ok(true))
-        },
+        |work| by_engine(same::fields(&work.table, &work.first, &work.second)),
+        |work| by_reference(quick::same(&work.table, &work.first, &work.second)),
     );
+}
+
+/// The engine's accepted answer as a number.
+pub fn by_engine(answer: Fields<2>) -> usize {
+    let [verdict, pairs] = answer.values;
+    (2 * pairs + verdict) as usize
+}
+
+/// The reference's.
+pub fn by_reference(answer: Result<Same, Refusal>) -> usize {
+    let [verdict, pairs] = numbers(answer.expect("accepted"));
+    (2 * pairs + verdict) as usize
 }

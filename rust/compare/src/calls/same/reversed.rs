@@ -1,7 +1,7 @@
 //! Two schedules that differ by one dependent pair alone: each pair of kinds that can be dependent
 //! must have been the one.
 
-use crate::calls::orders::{kinds, opposed};
+use crate::calls::orders::{kinds, names, opposed};
 use crate::harness::tally::Tally;
 use reference::pair::dependent;
 use reference::{Name, check};
@@ -18,9 +18,9 @@ pub fn note(tally: &mut Tally, table: &[u8], first: &[u8], second: &[u8]) {
         return;
     }
     let table = check(table).expect("the table is accepted");
-    let mut pairs = opposed(&table, first, second);
-    pairs.retain(|&(one, other)| dependent(&table, one, other));
-    if let [pair] = pairs[..] {
+    let [first, second] = [first, second].map(|schedule| names(&table, schedule));
+    let mut pairs = opposed(&first, &second).filter(|&(one, other)| dependent(&table, one, other));
+    if let (Some(pair), None) = (pairs.next(), pairs.next()) {
         let (one, other) = kinds(&table, pair);
         tally.kinds(one, other);
     }
