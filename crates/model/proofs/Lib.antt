@@ -75,3 +75,4 @@ pub mod DrawExamples
 pub mod JournalExamples
 pub mod Listings
 pub mod Forecourt
+pub mod ComparisonExamples

@@ -16,8 +16,8 @@ use Rattle.model.specs.Site.{Entry, initial}
 use Rattle.model.specs.Ready.{ReadyAnswer}
 use Rattle.model.specs.Report.{report}
 use Rattle.model.specs.Schedule.{machine, endState}
-use Rattle.model.specs.Calls.{Result, gives, refuses, Filled, reportRoom, runOf, readyOf, PairVerdict, pairOf, SameVerdict, sameOf}
-use Rattle.model.specs.Recordings.{prefixOf, Part, remainderOf, Slice, remainderIn}
+use Rattle.model.specs.Calls.{Result, gives, refuses, Filled, reportRoom, runOf, readyOf, PairVerdict, pairOf, SameVerdict, sameOf, Comparison, comparisonOf}
+use Rattle.model.specs.Recordings.{prefixOf, prefixComparisonOf, Part, remainderOf, Slice, remainderIn}
 use Rattle.model.specs.Scheduler.{scheduleRoom}
 use Rattle.model.specs.Draw.{draw, drawOf}
 use Rattle.model.specs.Route.{routeChecks}
@@ -76,6 +76,9 @@ pub data Question : Type 0 where
   ready : (table schedule : List ℕ) → Question
   pair : (table : List ℕ) (x y : Name) → Question
   areSame : (table first second : List ℕ) → Question
+  -- the answer of the call same, and of the call prefix: the verdict, and how many pairs were compared
+  compares : (table first second : List ℕ) → Question
+  comparesParts : (table first second : List ℕ) → Question
   -- the verdict on two recordings; their remainder, by their lengths and as bytes where they stand
   prefix : (table first second : List ℕ) → Question
   remains : (firstLength secondLength : ℕ) → Question
@@ -105,6 +108,7 @@ pub data Answer : Type 0 where
   readied : Result ReadyAnswer → Answer
   paired : Result PairVerdict → Answer
   judged : Result SameVerdict → Answer
+  counted : Result Comparison → Answer
   left : Part → Answer
   handed : Slice → Answer
   routed : Bool → Answer
@@ -122,6 +126,8 @@ ask (page table schedule) = written (writtenBy (pageOf table schedule (replicate
 ask (ready table schedule) = readied (readyOf table schedule)
 ask (pair table x y) = paired (pairOf table x y)
 ask (areSame table first second) = judged (sameOf table first second)
+ask (compares table first second) = counted (comparisonOf table first second)
+ask (comparesParts table first second) = counted (prefixComparisonOf table first second)
 ask (prefix table first second) = judged (prefixOf table first second)
 ask (remains firstLength secondLength) = left (remainderOf firstLength secondLength)
 ask (remainder first second) = handed (remainderIn first second)

@@ -47,3 +47,4 @@ pub mod DrawExamples
 pub mod JournalExamples
 pub mod Listings
 pub mod Forecourt
+pub mod ComparisonExamples
