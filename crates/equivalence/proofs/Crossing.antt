@@ -1,8 +1,8 @@
 -- A step crosses an earlier one exactly where the latest place that it must not come before is later than its own. Two steps of one actor have their
 -- places in order. Assumes nothing.
-use Prim.Native.Nat.{ℕ, suc, _<_, _≤_, max}
+use Prim.Native.Nat.{ℕ, _<_, max}
 use native.Mathlib.Omega.{arith}
-use mathlib.Core.Path.{_≡_, refl, sym, _∙_, ap, ap₂}
+use mathlib.Core.Path.{_≡_, sym, _∙_, ap, ap₂}
 use mathlib.Core.Logic.{_⊎_, inl, inr, _≢_}
 use mathlib.Core.Bool.{Bool, true, false, _&&_, _||_, and-comm, and-false}
 use mathlib.Core.List.{List}
@@ -11,7 +11,6 @@ use lib.Dec.{ltb}
 use lib.ListN.{getD}
 use Rattle.trace.specs.Machine.{Name}
 use Rattle.trace.proofs.Bools.{which}
-use Rattle.model.specs.Pair.{depends}
 use Rattle.model.proofs.PairCases.{depends-symmetric}
 use Rattle.names.specs.InByte.{nameOf}
 use Rattle.footprint.specs.Resources.{posted, contested, looked, share, clash}

@@ -3,15 +3,13 @@
 use Prim.Native.Nat.{ℕ, zero, suc, _<_}
 use native.Mathlib.Omega.{arith}
 use mathlib.Core.Path.{_≡_, refl, sym, _∙_, ap, ap₂}
-use mathlib.Core.Bool.{Bool, true, false, _&&_, _||_}
+use mathlib.Core.Bool.{Bool, false, _&&_, _||_}
 use mathlib.Core.List.{List, [], _∷_}
 use borrow.Author.Tests.{le-ltb}
 use lib.Dec.{ltb}
 use lib.ListN.{length, getD, replicate}
 use Rattle.trace.specs.Order.{has}
-use Rattle.trace.specs.Machine.{Name}
 use Rattle.model.specs.Pair.{anyOf}
-use Rattle.names.specs.InByte.{nameOf}
 use Rattle.names.specs.Steps.{Each}
 use Rattle.footprint.specs.Resources.{share}
 use Rattle.footprint.specs.Latest.{latestOf, raised}

@@ -3,16 +3,15 @@
 use Prim.Native.Nat.{ℕ, _<_, _≤_}
 use native.Mathlib.Omega.{arith}
 use mathlib.Core.Path.{_≡_, sym, _∙_, ap}
-use mathlib.Core.Bool.{Bool, true, false, _&&_, and-comm}
+use mathlib.Core.Bool.{Bool, true, _&&_, and-comm}
 use mathlib.Core.List.{List}
 use borrow.Author.Tests.{ltb-false}
 use lib.Dec.{ltb}
 use lib.ListN.{length, getD, take, length-map}
 use lib.Seq.{length-take-le}
-use Rattle.trace.specs.Machine.{Name}
 use Rattle.trace.specs.Order.{mem, before}
 use Rattle.trace.specs.Route.{place}
-use Rattle.trace.specs.Search.{Search, search, opposed}
+use Rattle.trace.specs.Search.{search, opposed}
 use Rattle.trace.proofs.Places.{before-place}
 use Rattle.trace.proofs.Searched.{search-alike}
 use Rattle.model.specs.Pair.{depends}

@@ -9,13 +9,11 @@ use mathlib.Core.Bool.{true, false}
 use mathlib.Core.List.{List}
 use borrow.Author.Tests.{lt-ltb, le-ltb, ltb-true, ltb-false}
 use lib.Dec.{ltb}
-use lib.ListN.{length, getD, replicate, length-replicate}
-use Rattle.trace.specs.Search.{Search, going, ended, comparedIn, hasEnded, searchRow, search}
+use lib.ListN.{getD, replicate, length-replicate}
+use Rattle.trace.specs.Search.{going, ended, searchRow}
 use Rattle.trace.proofs.Bools.{which, contrary}
 use Rattle.trace.proofs.Searched.{row-none, row-finds, search-stays}
 use Rattle.names.specs.InByte.{nameOf}
-use Rattle.names.specs.Steps.{Each}
-use Rattle.names.proofs.Listed.{each-map}
 use Rattle.footprint.specs.Resources.{posted, looked}
 use Rattle.footprint.specs.Latest.{latestMet, raised, Rooms, Passed}
 use Rattle.footprint.proofs.Raised.{passed-rooms}
@@ -24,7 +22,7 @@ use Rattle.equivalence.specs.declared.Comparison.{Comparison}
 use Rattle.equivalence.specs.Parts.{someBelow, crosses, searchOf, Placed, FirstOf, Found}
 use Rattle.equivalence.proofs.Below.{below-some, below-none}
 use Rattle.equivalence.proofs.Latest.{latest-begins, latest-next}
-use Rattle.equivalence.proofs.Crossing.{stepAt, placeAt, PostsBefore, LooksBefore, crossing-test}
+use Rattle.equivalence.proofs.Crossing.{placeAt, PostsBefore, LooksBefore, crossing-test}
 
 -- fewer steps
 pub fewer : {table first places : List ℕ} {m n : ℕ} → Placed table first places m → n ≤ m → Placed table first places n

@@ -6,7 +6,7 @@ use mathlib.Core.Bool.{Bool, true, false, _||_}
 use mathlib.Core.List.{List, [], _∷_, _++_}
 use lib.Dec.{eqb, lit<}
 use Rattle.trace.specs.Order.{has}
-use Rattle.model.specs.Site.{Side, sends, receives, Port, opposite, eqPort}
+use Rattle.model.specs.Site.{Side, sends, receives, Port, opposite}
 use Rattle.model.specs.Views.{Post, silent, mails, joins, leaves, notes, Look, blind, communications, mutexes}
 use Rattle.model.specs.Pair.{competes, answers, anyOf, meets}
 use Rattle.model.proofs.Upd.{test-symmetric}

@@ -2,7 +2,7 @@
 -- Assumes nothing but the accepted table.
 use Prim.Native.Nat.{ℕ, max}
 use native.Mathlib.Omega.{arith}
-use mathlib.Core.Path.{_≡_, refl, sym, _∙_, ap, ap₂, subst}
+use mathlib.Core.Path.{_≡_, refl, sym, _∙_, ap, subst}
 use mathlib.Core.List.{List, [], _∷_}
 use lib.ListN.{getD, set}
 use Rattle.table.specs.declared.Action.{Action}
@@ -12,7 +12,7 @@ use Rattle.model.specs.Site.{name}
 use Rattle.model.specs.Views.{Post, silent, Look, blind, posts, looks}
 use Rattle.model.specs.Pair.{postAt}
 use Rattle.names.specs.Steps.{Stands}
-use Rattle.footprint.specs.Resources.{postedTo, contestedBy, lookedAt, SmallPost, LookStands, posted, contested, looked}
+use Rattle.footprint.specs.Resources.{postedTo, contestedBy, lookedAt, SmallPost, LookStands}
 use Rattle.footprint.specs.Latest.{latestOf, raised, Looked, Passed}
 use Rattle.footprint.proofs.Ranges.{small-post, look-stands}
 

@@ -3,7 +3,7 @@
 -- Assumes nothing: these are definitions.
 use Prim.Native.Nat.{ℕ, _+_, _*_, _<_}
 use mathlib.Core.Bool.{Bool, _||_}
-use mathlib.Core.List.{List, [], _∷_, _++_, map}
+use mathlib.Core.List.{List, [], _∷_, _++_}
 use Rattle.trace.specs.Machine.{Name}
 use Rattle.trace.specs.Order.{has}
 use Rattle.model.specs.Site.{name, Side, sends, receives, Port, opposite}

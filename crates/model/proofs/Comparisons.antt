@@ -9,23 +9,19 @@ use mathlib.Core.List.{List}
 use lib.ListN.{length}
 use Rattle.table.specs.Outcome.{Outcome, accepted, refused}
 use Rattle.table.specs.Read.{readOf}
-use Rattle.trace.specs.Machine.{Name}
-use Rattle.trace.specs.Schedule.{names}
-use Rattle.trace.specs.Order.{before}
-use Rattle.trace.specs.Same.{sameSteps, reorders, equivalent}
-use Rattle.trace.specs.Search.{Search, comparedIn, hasEnded, search, opposed, pairsCompared}
+use Rattle.trace.specs.Same.{sameSteps, equivalent}
+use Rattle.trace.specs.Search.{Search, comparedIn, hasEnded, opposedIn}
 use Rattle.trace.proofs.Bools.{which, contrary, is-false, both, and-left, and-right}
-use Rattle.trace.proofs.Run.{names-length}
 use Rattle.trace.proofs.Triangle.{triangle, triangle-is, one-pair}
-use Rattle.trace.proofs.Searched.{FirstBelow, NoneBefore, Ends, search-none, search-ends, search-cases}
-use Rattle.trace.proofs.Places.{search-reorders}
+use Rattle.trace.proofs.Searched.{NoneBefore, Ends, search-none, search-ends, search-cases}
+use Rattle.trace.proofs.Numbered.{searched, search-judges, number-is}
 use Rattle.model.specs.Site.{initial}
 use Rattle.model.specs.Pair.{depends}
 use Rattle.model.specs.Schedule.{machine}
 use Rattle.model.specs.Calls.{gives, answer, pairOf, dependent, independent, SameVerdict, same, different, sameChecks, sameOf, Comparison, comparisonOf}
 use Rattle.model.specs.Recordings.{held, prefixOf, prefixComparisonOf}
 use Rattle.model.specs.Demand3.{Accepted, stepName}
-use Rattle.model.specs.Comparisons.{verdictIn, allPairs, pairNumber, Sooner, Crossed, FirstCrossed, Answers, EveryComparison}
+use Rattle.model.specs.Comparisons.{verdictIn, allPairs, numberTelling, Sooner, Crossed, FirstCrossed, Answers, EveryComparison}
 use Rattle.model.proofs.Checks.{answer-given, gives-injective, steps-in-table}
 use Rattle.model.proofs.Demand3.{checks-both, pair-given, judged-dependent}
 use Rattle.model.proofs.SameVerdicts.{both-accepted}
@@ -38,8 +34,8 @@ same-not-different : same ≡ different → ⊥
 same-not-different e = let z : _≡_ {A = ℕ} 0 1 = cc in omega arith
 
 -- the number of a pair, by the sum of the rows before it
-number-is : (i j : ℕ) → triangle j + i + 1 ≡ pairNumber i j
-number-is i j = ap (λ (t : ℕ). t + i + 1) (triangle-is j)
+number-telling : (i j : ℕ) → triangle j + i + 1 ≡ numberTelling i j
+number-telling i j = ap (λ (t : ℕ). t + i + 1) (triangle-is j)
 
 module _ (table : List ℕ) where
   pub verdicts : (p q : List ℕ) → verdictIn (comparisonOf table p q) ≡ sameOf table p q
@@ -53,40 +49,32 @@ module _ (table : List ℕ) where
   module _ (read : readOf table ≡ accepted) (p q : List ℕ) where
     -- entries i and j of the first schedule are opposed
     abbrev crosses : ℕ → ℕ → Bool
-    crosses = opposed (depends table) (names (machine table) initial p) (names (machine table) initial q)
-
-    abbrev searched : Search
-    searched = search crosses (length p)
+    crosses = opposedIn (machine table) initial p q
 
     -- an answer is given of accepted schedules only
     answered : (v : SameVerdict) (n : ℕ) → Answers table p q v n → Accepted table p × Accepted table q
     answered v n h = both-accepted table p q v (sym (verdicts p q) ∙ ap verdictIn h)
 
-    search-judges : equivalent (machine table) initial p q ≡ (sameSteps (machine table) initial p q && not (hasEnded searched))
-    unfolding equivalent
-    search-judges =
-        ap (λ (b : Bool). sameSteps (machine table) initial p q && not b)
-        (sym (search-reorders (depends table) (names (machine table) initial p) (names (machine table) initial q))
-        ∙ ap (λ (m : ℕ). hasEnded (search crosses m)) (names-length (machine table) initial p))
-
     module _ (hp : Accepted table p) (hq : Accepted table q) where
-      given : (b : Bool) (s : Search) → sameSteps (machine table) initial p q ≡ b → searched ≡ s
+      given : (b : Bool) (s : Search) → sameSteps (machine table) initial p q ≡ b → searched (machine table) initial p q ≡ s
           → comparisonOf table p q ≡ gives (record { verdict = cond (b && not (hasEnded s)) same different; pairs = cond b (comparedIn s) 0 })
-      unfolding comparisonOf pairsCompared
+      unfolding comparisonOf
       given b s steps found =
+          let verdict : equivalent (machine table) initial p q ≡ (b && not (hasEnded s)) =
+          search-judges (machine table) initial p q ∙ (λ k. steps k && not (hasEnded (found k))) in
+          let number = number-is (machine table) initial p q b s steps found in
           answer-given (sameChecks table p q) _ (checks-both table read p q hp hq)
-          ∙ (λ k. gives (record { verdict = cond (search-judges k) same different; pairs = cond (sameSteps (machine table) initial p q) (comparedIn searched) 0 }))
-          ∙ (λ k. gives (record { verdict = cond (steps k && not (hasEnded (found k))) same different; pairs = cond (steps k) (comparedIn (found k)) 0 }))
+          ∙ (λ k. gives (record { verdict = cond (verdict k) same different; pairs = number k }))
 
       -- ---- the three answers
 
       none-compared : sameSteps (machine table) initial p q ≡ false → Answers table p q different 0
-      none-compared steps = given false searched steps refl
+      none-compared steps = given false _ steps refl
 
-      ended-by : (e : Ends crosses (length p)) → sameSteps (machine table) initial p q ≡ true → Answers table p q different (pairNumber (e .earlier .at) (e .later))
+      ended-by : (e : Ends crosses (length p)) → sameSteps (machine table) initial p q ≡ true → Answers table p q different (numberTelling (e .earlier .at) (e .later))
       ended-by e steps =
           given true _ steps (search-ends crosses (length p) e)
-          ∙ ap (λ (n : ℕ). gives (record { verdict = different; pairs = n })) (number-is (e .earlier .at) (e .later))
+          ∙ ap (λ (n : ℕ). gives (record { verdict = different; pairs = n })) (number-telling (e .earlier .at) (e .later))
 
       all-gone-through : NoneBefore crosses (length p) → sameSteps (machine table) initial p q ≡ true → Answers table p q same (allPairs (length p))
       all-gone-through none steps =
@@ -145,7 +133,7 @@ module _ (table : List ℕ) where
           none : (k l : ℕ) → Sooner k l i j → k < l → l < length p → crosses k l ≡ false
           none k l s h less = is-false _ (λ t. f .none-sooner k l s (of-crosses k l h less t))
 
-      told : (i j : ℕ) → sameSteps (machine table) initial p q ≡ true → FirstCrossed table p q i j → Answers table p q different (pairNumber i j)
+      told : (i j : ℕ) → sameSteps (machine table) initial p q ≡ true → FirstCrossed table p q i j → Answers table p q different (numberTelling i j)
       unfolding ends-with
       told i j steps f = ended-by (ends-with i j f) steps
 
@@ -167,7 +155,7 @@ module _ (table : List ℕ) where
         go (inr steps) _ = absurd (same-not-different (same-number h (none-compared (ok .0) (ok .1) steps) .0))
 
     tells : (n : ℕ) → Answers table p q different n → 0 < n
-        → (sameSteps (machine table) initial p q ≡ true) × ((i : ℕ) × (j : ℕ) × FirstCrossed table p q i j × (n ≡ pairNumber i j))
+        → (sameSteps (machine table) initial p q ≡ true) × ((i : ℕ) × (j : ℕ) × FirstCrossed table p q i j × (n ≡ numberTelling i j))
     tells n h some = go (which (sameSteps (machine table) initial p q)) (search-cases crosses (length p))
       where
         ok : Accepted table p × Accepted table q
@@ -175,7 +163,7 @@ module _ (table : List ℕ) where
 
         go : (sameSteps (machine table) initial p q ≡ true) ⊎ (sameSteps (machine table) initial p q ≡ false)
             → Ends crosses (length p) ⊎ NoneBefore crosses (length p)
-            → (sameSteps (machine table) initial p q ≡ true) × ((i : ℕ) × (j : ℕ) × FirstCrossed table p q i j × (n ≡ pairNumber i j))
+            → (sameSteps (machine table) initial p q ≡ true) × ((i : ℕ) × (j : ℕ) × FirstCrossed table p q i j × (n ≡ numberTelling i j))
         go (inl steps) (inl e) =
             (steps, (e .earlier .at, e .later, first-crossed (ok .0) (ok .1) e, same-number h (ended-by (ok .0) (ok .1) e steps) .1))
         go (inl steps) (inr none) = absurd (same-not-different (sym (same-number h (all-gone-through (ok .0) (ok .1) none steps) .0)))
@@ -191,7 +179,7 @@ module _ (table : List ℕ) where
       where
         go : sameSteps (machine table) initial p q ≡ true → (i : ℕ) × (j : ℕ) × Crossed table p q i j
             → Ends crosses (length p) ⊎ NoneBefore crosses (length p) → (n : ℕ) × (0 < n) × Answers table p q different n
-        go steps c (inl e) = (pairNumber (e .earlier .at) (e .later), omega arith, ended-by hp hq e steps)
+        go steps c (inl e) = (numberTelling (e .earlier .at) (e .later), omega arith, ended-by hp hq e steps)
         go steps c (inr none) = contrary (crosses-of hp hq (c .0) (c .1) (c .2)) (none (c .1) (c .2 .in-first) (c .0) (c .2 .in-order))
 
 pub every-comparison : EveryComparison
@@ -203,6 +191,6 @@ every-comparison table read =
       none-compared = none-compared table read;
       tells = λ p q n h some. tells table read p q n h some .1;
       told = λ p q i j hp hq. told table read p q hp hq i j;
-      one-pair = λ i j k l h h' e. one-pair i j k l h h' (omega (arith, number-is i j, number-is k l, e));
+      one-pair = λ i j k l h h' e. one-pair i j k l h h' (omega (arith, number-telling i j, number-telling k l, e));
       found = found table read;
     }

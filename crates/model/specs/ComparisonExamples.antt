@@ -3,7 +3,7 @@
 -- Assumes nothing: these are definitions.
 use Prim.Native.Nat.{ℕ}
 use mathlib.Core.List.{List, [], _∷_}
-use Rattle.model.specs.Calls.{Result, gives, refuses, same, different, Comparison}
+use Rattle.model.specs.Calls.{gives, refuses, same, different}
 use Rattle.model.specs.Claims.{Claim, _⇒_, Answer, compares, comparesParts, counted}
 use Rattle.model.specs.Cases.{tableA}
 use Rattle.model.specs.Examples.{sets, note, site}

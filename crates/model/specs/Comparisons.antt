@@ -27,8 +27,8 @@ abbrev pub allPairs : ℕ → ℕ
 allPairs m = m * (m - 1) / 2
 
 -- "j·(j − 1)/2 + i + 1": the number of the pair (i, j)
-abbrev pub pairNumber : (i j : ℕ) → ℕ
-pairNumber i j = allPairs j + i + 1
+abbrev pub numberTelling : (i j : ℕ) → ℕ
+numberTelling i j = allPairs j + i + 1
 
 -- a pair (k, l) is compared before the pair (i, j): "by rising j, then rising i"
 abbrev pub Sooner : (k l i j : ℕ) → Type 0
@@ -61,11 +61,11 @@ pub record Comparisons (table : List ℕ) : Type 0 where
   pub none-compared : (p q : List ℕ) → Accepted table p → Accepted table q → sameSteps (machine table) initial p q ≡ false → Answers table p q different 0
   -- otherwise the number tells the pair that ended the search: it is the first that is crossed
   pub tells : (p q : List ℕ) (n : ℕ) → Answers table p q different n → 0 < n
-      → (i : ℕ) × (j : ℕ) × FirstCrossed table p q i j × (n ≡ pairNumber i j)
+      → (i : ℕ) × (j : ℕ) × FirstCrossed table p q i j × (n ≡ numberTelling i j)
   pub told : (p q : List ℕ) (i j : ℕ) → Accepted table p → Accepted table q → sameSteps (machine table) initial p q ≡ true → FirstCrossed table p q i j
-      → Answers table p q different (pairNumber i j)
+      → Answers table p q different (numberTelling i j)
   -- one pair for each number
-  pub one-pair : (i j k l : ℕ) → i < j → k < l → pairNumber i j ≡ pairNumber k l → (i ≡ k) × (j ≡ l)
+  pub one-pair : (i j k l : ℕ) → i < j → k < l → numberTelling i j ≡ numberTelling k l → (i ≡ k) × (j ≡ l)
   -- "different" with a number above 0 is said exactly where the two run the same steps and some pair is crossed
   pub found : (p q : List ℕ) → Accepted table p → Accepted table q
       → ((n : ℕ) × (0 < n) × Answers table p q different n)

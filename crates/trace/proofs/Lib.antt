@@ -15,7 +15,8 @@ pub mod Symmetric
 pub mod SameChained
 pub mod Count
 pub mod Inversions
-pub mod Theorems
 pub mod Triangle
 pub mod Searched
 pub mod Places
+pub mod Numbered
+pub mod Theorems

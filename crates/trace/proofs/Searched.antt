@@ -6,7 +6,7 @@ use native.Mathlib.Omega.{arith}
 use mathlib.Core.Path.{_≡_, refl, sym, _∙_, ap}
 use mathlib.Core.Logic.{_⊎_, inl, inr}
 use mathlib.Core.Bool.{Bool, true, false}
-use Rattle.trace.specs.Search.{Search, going, ended, compare, searchRow, search}
+use Rattle.trace.specs.Search.{going, ended, compare, searchRow, search}
 use Rattle.trace.proofs.Bools.{which}
 use Rattle.trace.proofs.Triangle.{triangle}
 

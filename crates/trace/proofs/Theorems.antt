@@ -17,6 +17,7 @@ use Rattle.trace.proofs.Run.{stays-ready, names-distinct, names-length}
 use Rattle.trace.proofs.Keeps.{keeps-run, chain-reaches, chain-linked}
 use Rattle.trace.proofs.SameChained.{same-names, route-chain, same-chained}
 use Rattle.trace.proofs.Symmetric.{same-symmetric}
+use Rattle.trace.proofs.Numbered.{pairs-compared}
 use Rattle.trace.proofs.Inversions.{route-length, no-shorter, inversions-bound}
 
 module _ {M : Machine} {Inv : M .State → Type 0} (L : Laws M Inv) (s : M .State) (i : Inv s) where
@@ -46,4 +47,5 @@ module _ {M : Machine} {Inv : M .State → Type 0} (L : Laws M Inv) (s : M .Stat
         same-chained = same-chained L s i;
         shortest-route = shortest-route;
         same-symmetric = same-symmetric L s;
+        pairs-compared = pairs-compared M s;
       }

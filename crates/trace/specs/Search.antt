@@ -49,6 +49,11 @@ entry u k = getD u k unnamed
 abbrev pub opposed : (Name → Name → Bool) → (u v : List Name) → ℕ → ℕ → Bool
 opposed dep u v i j = dep (entry u i) (entry u j) && before (entry u j) (entry u i) v
 
--- the pairs compared: "0 when lengths differ or the two did not run the same steps"
-unfoldable pub pairsCompared : (M : Machine) → M .State → List ℕ → List ℕ → ℕ
-pairsCompared M s p q = cond (sameSteps M s p q) (comparedIn (search (opposed (M .dep) (names M s p) (names M s q)) (length p))) 0
+module _ (M : Machine) (s : M .State) (p q : List ℕ) where
+  -- the same of the steps that two schedules run
+  abbrev pub opposedIn : ℕ → ℕ → Bool
+  opposedIn = opposed (M .dep) (names M s p) (names M s q)
+
+  -- the pairs compared: "0 when lengths differ or the two did not run the same steps"
+  unfoldable pub pairsCompared : ℕ
+  pairsCompared = cond (sameSteps M s p q) (comparedIn (search opposedIn (length p))) 0

@@ -56,8 +56,10 @@ cast-t26 c = omega (arith, c .before .before .before .before .before .before .be
 
 returns : tie.Need-returns Inv-loop μ-loop
 returns c =
-    let x = c .before .before .before .before .before .before .before .before .before .before .before .args in
-    search-finds (x .table .now) (x .first .now) (x .places .now) (x .m) (c .before .before .before .before .before .before .before .before .before .before .before .pre) (c .before .before .before .before .before .before .before .before .before .loop .inv) (c .before .before .before .before .before .before .before .before .loop-test .taken)
+    let start = c .before .before .before .before .before .before .before .before .before .before .before in
+    let x = start .args in
+    let turn = c .before .before .before .before .before .before .before .before in
+    search-finds (x .table .now) (x .first .now) (x .places .now) (x .m) (start .pre) (turn .before .loop .inv) (turn .loop-test .taken)
     (c .before .before .before .before .before .before .wide .ensures .0) (c .before .before .pass .ensures) (c .before .if1 .taken) (c .earliest .ensures) _ refl refl
 
 add-pairs : tie.Need-add-pairs Inv-loop μ-loop
@@ -71,8 +73,10 @@ loop-less c = omega arith
 
 loop-again : tie.Need-loop-again Inv-loop μ-loop
 loop-again c =
-    let x = c .before .before .before .before .before .before .before .before .before .before .args in
-    search-next (x .table .now) (x .first .now) (x .places .now) (x .m) (c .before .before .before .before .before .before .before .before .before .before .pre) (c .before .before .before .before .before .before .before .before .loop .inv) (c .before .before .before .before .before .before .before .loop-test .taken)
+    let start = c .before .before .before .before .before .before .before .before .before .before in
+    let x = start .args in
+    let turn = c .before .before .before .before .before .before .before in
+    search-next (x .table .now) (x .first .now) (x .places .now) (x .m) (start .pre) (turn .before .loop .inv) (turn .loop-test .taken)
     (c .before .before .before .before .before .wide .ensures .0) (c .before .pass .ensures) (c .if1 .left)
 
 cast-t27 : tie.Need-cast-t27 Inv-loop μ-loop

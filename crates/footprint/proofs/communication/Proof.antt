@@ -9,7 +9,6 @@ use Rattle.model.specs.Pair.{postAt}
 use Rattle.footprint.specs.Resources.{awaitedBy, SmallPost}
 use Rattle.footprint.proofs.Lists.{looked-nothing, looked-as, beyond, within}
 use Rattle.footprint.proofs.Ranges.{small-post}
-use borrow.Author.Needs.{needs}
 use Rattle.footprint.proofs.communication.Statement.{statement}
 use Rattle.footprint.proofs.communication.Tie as tie
 

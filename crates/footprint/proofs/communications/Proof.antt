@@ -9,7 +9,10 @@ use Rattle.model.specs.Pair.{postAt}
 use Rattle.names.specs.Steps.{Stands}
 use Rattle.names.proofs.Listed.{listed-at}
 use Rattle.footprint.specs.Resources.{awaitedBy}
-use Rattle.footprint.proofs.Lists.{looked-four, looked-rooms}
+use Rattle.footprint.proofs.Lists.{
+  looked-four,
+  looked-rooms,
+}
 use borrow.Author.Needs.{needs}
 use Rattle.footprint.proofs.communications.Statement.{statement}
 use Rattle.footprint.proofs.communications.Tie as tie
@@ -23,20 +26,29 @@ communication-requires c κs =
 communication-requires-2 : tie.Need-communication-requires-2
 communication-requires-2 c κs =
     let s = c .before .before .before .before in
-    let x = s .args in
-    (s .pre .0, λ h. listed-at (λ k. Stands (x .table .now) (name (x .a) k)) (x .list) 1 (s .pre .1) (lit< tt) (omega (arith, h)), looked-rooms (s .pre .2) (c .before .communication .ensures))
+    let x = s .args in (
+      s .pre .0,
+      λ h. listed-at (λ k. Stands (x .table .now) (name (x .a) k)) (x .list) 1 (s .pre .1) (lit< tt) (omega (arith, h)),
+      looked-rooms (s .pre .2) (c .before .communication .ensures),
+    )
 
 communication-requires-3 : tie.Need-communication-requires-3
 communication-requires-3 c κs =
     let s = c .before .before .before .before .before .before in
-    let x = s .args in
-    (s .pre .0, λ h. listed-at (λ k. Stands (x .table .now) (name (x .a) k)) (x .list) 2 (s .pre .1) (lit< tt) (omega (arith, h)), looked-rooms (looked-rooms (s .pre .2) (c .before .before .before .communication .ensures)) (c .before .communication2 .ensures))
+    let x = s .args in (
+      s .pre .0,
+      λ h. listed-at (λ k. Stands (x .table .now) (name (x .a) k)) (x .list) 2 (s .pre .1) (lit< tt) (omega (arith, h)),
+      looked-rooms (looked-rooms (s .pre .2) (c .before .before .before .communication .ensures)) (c .before .communication2 .ensures),
+    )
 
 communication-requires-4 : tie.Need-communication-requires-4
 communication-requires-4 c κs =
     let s = c .before .before .before .before .before .before .before .before in
-    let x = s .args in
-    (s .pre .0, λ h. listed-at (λ k. Stands (x .table .now) (name (x .a) k)) (x .list) 3 (s .pre .1) (lit< tt) (omega (arith, h)), looked-rooms (looked-rooms (looked-rooms (s .pre .2) (c .before .before .before .before .before .communication .ensures)) (c .before .before .before .communication2 .ensures)) (c .before .communication3 .ensures))
+    let x = s .args in (
+      s .pre .0,
+      λ h. listed-at (λ k. Stands (x .table .now) (name (x .a) k)) (x .list) 3 (s .pre .1) (lit< tt) (omega (arith, h)),
+      looked-rooms (looked-rooms (looked-rooms (s .pre .2) (c .before .before .before .before .before .communication .ensures)) (c .before .before .before .communication2 .ensures)) (c .before .communication3 .ensures),
+    )
 
 later-requires : tie.Need-later-requires
 later-requires c κs = search needs

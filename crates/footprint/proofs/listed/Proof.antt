@@ -1,7 +1,7 @@
 -- `footprint::listed` meets its contract: each kind that posts to a mailbox has its own arm, and no other awaits anything.
 -- Assumes nothing.
 use native.Mathlib.Omega.{arith}
-use mathlib.Core.Path.{_≡_, refl, subst}
+use mathlib.Core.Path.{refl, subst}
 use mathlib.Core.List.{[], _∷_}
 use Rattle.table.specs.declared.Action.{Action}
 use Rattle.table.specs.declared.Action.the-variants.{Send, Receive}
@@ -32,7 +32,9 @@ enum-known-x-2 : tie.Need-enum-known-x-2
 enum-known-x-2 c = search needs
 
 add-look-at-2 : tie.Need-add-look-at-2
-add-look-at-2 c = search needs
+add-look-at-2 c =
+    let small = subst (λ (t : Action). SmallPost (posts t)) (c .before .x2 .given .1) (c .before .before .before .pre .0) in
+    omega (arith, small)
 
 look-at-requires-2 : tie.Need-look-at-requires-2
 look-at-requires-2 c κs =

@@ -3,7 +3,6 @@
 use native.Mathlib.Omega.{arith}
 use mathlib.Core.Path.{refl}
 use Rattle.footprint.proofs.Lists.{looked-nothing, looked-one, beyond, within}
-use borrow.Author.Needs.{needs}
 use Rattle.footprint.proofs.mutex.Statement.{statement}
 use Rattle.footprint.proofs.mutex.Tie as tie
 

@@ -7,7 +7,10 @@ use mathlib.Core.List.{[], _∷_}
 use lib.Dec.{lit<}
 use Rattle.names.proofs.Listed.{listed-at}
 use Rattle.footprint.specs.Resources.{resource, unlockGroup}
-use Rattle.footprint.proofs.Lists.{looked-four, looked-rooms}
+use Rattle.footprint.proofs.Lists.{
+  looked-four,
+  looked-rooms,
+}
 use borrow.Author.Needs.{needs}
 use Rattle.footprint.proofs.mutexes.Statement.{statement}
 use Rattle.footprint.proofs.mutexes.Tie as tie
@@ -19,18 +22,24 @@ mutex-requires c κs =
 
 mutex-requires-2 : tie.Need-mutex-requires-2
 mutex-requires-2 c κs =
-    let s = c .before .before .before in
-    (λ h. listed-at (λ m. m < 8) (s .args .list) 1 (s .pre .0) (lit< tt) (omega (arith, h)), looked-rooms (s .pre .1) (c .before .mutex .ensures))
+    let s = c .before .before .before in (
+      λ h. listed-at (λ m. m < 8) (s .args .list) 1 (s .pre .0) (lit< tt) (omega (arith, h)),
+      looked-rooms (s .pre .1) (c .before .mutex .ensures),
+    )
 
 mutex-requires-3 : tie.Need-mutex-requires-3
 mutex-requires-3 c κs =
-    let s = c .before .before .before .before .before in
-    (λ h. listed-at (λ m. m < 8) (s .args .list) 2 (s .pre .0) (lit< tt) (omega (arith, h)), looked-rooms (looked-rooms (s .pre .1) (c .before .before .before .mutex .ensures)) (c .before .mutex2 .ensures))
+    let s = c .before .before .before .before .before in (
+      λ h. listed-at (λ m. m < 8) (s .args .list) 2 (s .pre .0) (lit< tt) (omega (arith, h)),
+      looked-rooms (looked-rooms (s .pre .1) (c .before .before .before .mutex .ensures)) (c .before .mutex2 .ensures),
+    )
 
 mutex-requires-4 : tie.Need-mutex-requires-4
 mutex-requires-4 c κs =
-    let s = c .before .before .before .before .before .before .before in
-    (λ h. listed-at (λ m. m < 8) (s .args .list) 3 (s .pre .0) (lit< tt) (omega (arith, h)), looked-rooms (looked-rooms (looked-rooms (s .pre .1) (c .before .before .before .before .before .mutex .ensures)) (c .before .before .before .mutex2 .ensures)) (c .before .mutex3 .ensures))
+    let s = c .before .before .before .before .before .before .before in (
+      λ h. listed-at (λ m. m < 8) (s .args .list) 3 (s .pre .0) (lit< tt) (omega (arith, h)),
+      looked-rooms (looked-rooms (looked-rooms (s .pre .1) (c .before .before .before .before .before .mutex .ensures)) (c .before .before .before .mutex2 .ensures)) (c .before .mutex3 .ensures),
+    )
 
 later-requires : tie.Need-later-requires
 later-requires c κs = search needs

@@ -34,26 +34,30 @@ enum-known-x c = search needs
 
 add-contest : tie.Need-add-contest
 add-contest c =
-    let small = small-post-as (c .before .before .before .before .before .pre .0) (c .before .before .before .before .before .pre .1) (sym (c .before .before .before .action .ensures) ∙ c .before .x .given .1) in
+    let s = c .before .before .before .before .before in
+    let small = small-post-as (s .pre .0) (s .pre .1) (sym (c .before .before .before .action .ensures) ∙ c .before .x .given .1) in
     omega (arith, small)
 
 contest-requires : tie.Need-contest-requires
 contest-requires c κs =
-    let small = small-post-as (c .before .before .before .before .before .before .before .pre .0) (c .before .before .before .before .before .before .before .pre .1) (sym (c .before .before .before .before .before .action .ensures) ∙ c .before .before .before .x .given .1) in
-    (omega (arith, small), c .before .before .before .before .before .before .before .pre .2)
+    let s = c .before .before .before .before .before .before .before in
+    let small = small-post-as (s .pre .0) (s .pre .1) (sym (c .before .before .before .before .before .action .ensures) ∙ c .before .before .before .x .given .1) in
+    (omega (arith, small), s .pre .2)
 
 enum-known-x-2 : tie.Need-enum-known-x-2
 enum-known-x-2 c = search needs
 
 add-contest-2 : tie.Need-add-contest-2
 add-contest-2 c =
-    let small = small-post-as (c .before .before .before .before .before .pre .0) (c .before .before .before .before .before .pre .1) (sym (c .before .before .before .action .ensures) ∙ c .before .x2 .given .1) in
+    let s = c .before .before .before .before .before in
+    let small = small-post-as (s .pre .0) (s .pre .1) (sym (c .before .before .before .action .ensures) ∙ c .before .x2 .given .1) in
     omega (arith, small)
 
 contest-requires-2 : tie.Need-contest-requires-2
 contest-requires-2 c κs =
-    let small = small-post-as (c .before .before .before .before .before .before .before .pre .0) (c .before .before .before .before .before .before .before .pre .1) (sym (c .before .before .before .before .before .action .ensures) ∙ c .before .before .before .x2 .given .1) in
-    (omega (arith, small), c .before .before .before .before .before .before .before .pre .2)
+    let s = c .before .before .before .before .before .before .before in
+    let small = small-post-as (s .pre .0) (s .pre .1) (sym (c .before .before .before .before .before .action .ensures) ∙ c .before .before .before .x2 .given .1) in
+    (omega (arith, small), s .pre .2)
 
 enum-known-x-3 : tie.Need-enum-known-x-3
 enum-known-x-3 c = search needs
@@ -61,7 +65,8 @@ enum-known-x-3 c = search needs
 communications-requires : tie.Need-communications-requires
 communications-requires c κs =
     let s = c .before .before .before .before .before .before .before in
-    (s .pre .0, look-stands-as (s .pre .0) (s .pre .1) (sym (c .before .before .before .before .before .action .ensures) ∙ c .before .before .before .x3 .given .1), s .pre .2)
+    let stands = look-stands-as (s .pre .0) (s .pre .1) (sym (c .before .before .before .before .before .action .ensures) ∙ c .before .before .before .x3 .given .1) in
+    (s .pre .0, stands, s .pre .2)
 
 enum-known-x-4 : tie.Need-enum-known-x-4
 enum-known-x-4 c = search needs
@@ -69,33 +74,38 @@ enum-known-x-4 c = search needs
 communications-requires-2 : tie.Need-communications-requires-2
 communications-requires-2 c κs =
     let s = c .before .before .before .before .before .before .before in
-    (s .pre .0, look-stands-as (s .pre .0) (s .pre .1) (sym (c .before .before .before .before .before .action .ensures) ∙ c .before .before .before .x4 .given .1), s .pre .2)
+    let stands = look-stands-as (s .pre .0) (s .pre .1) (sym (c .before .before .before .before .before .action .ensures) ∙ c .before .before .before .x4 .given .1) in
+    (s .pre .0, stands, s .pre .2)
 
 enum-known-x-5 : tie.Need-enum-known-x-5
 enum-known-x-5 c = search needs
 
 add-contest-3 : tie.Need-add-contest-3
 add-contest-3 c =
-    let small = small-post-as (c .before .before .before .before .before .pre .0) (c .before .before .before .before .before .pre .1) (sym (c .before .before .before .action .ensures) ∙ c .before .x5 .given .1) in
+    let s = c .before .before .before .before .before in
+    let small = small-post-as (s .pre .0) (s .pre .1) (sym (c .before .before .before .action .ensures) ∙ c .before .x5 .given .1) in
     omega (arith, small)
 
 contest-requires-3 : tie.Need-contest-requires-3
 contest-requires-3 c κs =
-    let small = small-post-as (c .before .before .before .before .before .before .before .pre .0) (c .before .before .before .before .before .before .before .pre .1) (sym (c .before .before .before .before .before .action .ensures) ∙ c .before .before .before .x5 .given .1) in
-    (omega (arith, small), c .before .before .before .before .before .before .before .pre .2)
+    let s = c .before .before .before .before .before .before .before in
+    let small = small-post-as (s .pre .0) (s .pre .1) (sym (c .before .before .before .before .before .action .ensures) ∙ c .before .before .before .x5 .given .1) in
+    (omega (arith, small), s .pre .2)
 
 enum-known-x-6 : tie.Need-enum-known-x-6
 enum-known-x-6 c = search needs
 
 add-release : tie.Need-add-release
 add-release c =
-    let small = small-post-as (c .before .before .before .before .before .pre .0) (c .before .before .before .before .before .pre .1) (sym (c .before .before .before .action .ensures) ∙ c .before .x6 .given .1) in
+    let s = c .before .before .before .before .before in
+    let small = small-post-as (s .pre .0) (s .pre .1) (sym (c .before .before .before .action .ensures) ∙ c .before .x6 .given .1) in
     omega (arith, small)
 
 release-requires : tie.Need-release-requires
 release-requires c κs =
-    let small = small-post-as (c .before .before .before .before .before .before .before .pre .0) (c .before .before .before .before .before .before .before .pre .1) (sym (c .before .before .before .before .before .action .ensures) ∙ c .before .before .before .x6 .given .1) in
-    (omega (arith, small), c .before .before .before .before .before .before .before .pre .2)
+    let s = c .before .before .before .before .before .before .before in
+    let small = small-post-as (s .pre .0) (s .pre .1) (sym (c .before .before .before .before .before .action .ensures) ∙ c .before .before .before .x6 .given .1) in
+    (omega (arith, small), s .pre .2)
 
 enum-known-x-7 : tie.Need-enum-known-x-7
 enum-known-x-7 c = search needs
@@ -103,7 +113,8 @@ enum-known-x-7 c = search needs
 mutexes-requires : tie.Need-mutexes-requires
 mutexes-requires c κs =
     let s = c .before .before .before .before .before .before .before in
-    (look-stands-as (s .pre .0) (s .pre .1) (sym (c .before .before .before .before .before .action .ensures) ∙ c .before .before .before .x7 .given .1), s .pre .2)
+    let stands = look-stands-as (s .pre .0) (s .pre .1) (sym (c .before .before .before .before .before .action .ensures) ∙ c .before .before .before .x7 .given .1) in
+    (stands, s .pre .2)
 
 enum-known-x-8 : tie.Need-enum-known-x-8
 enum-known-x-8 c = search needs
@@ -111,7 +122,8 @@ enum-known-x-8 c = search needs
 mutexes-requires-2 : tie.Need-mutexes-requires-2
 mutexes-requires-2 c κs =
     let s = c .before .before .before .before .before .before .before in
-    (look-stands-as (s .pre .0) (s .pre .1) (sym (c .before .before .before .before .before .action .ensures) ∙ c .before .before .before .x8 .given .1), s .pre .2)
+    let stands = look-stands-as (s .pre .0) (s .pre .1) (sym (c .before .before .before .before .before .action .ensures) ∙ c .before .before .before .x8 .given .1) in
+    (stands, s .pre .2)
 
 enum-told : tie.Need-enum-told
 enum-told c = search needs
@@ -122,39 +134,57 @@ contest-requires-4 c κs =
 
 returns : tie.Need-returns
 returns c =
-    passed-contest (sym (c .before .before .before .before .before .before .action .ensures) ∙ c .before .before .before .before .x .given .1) refl refl (c .contest .ensures .1) refl (c .contest .ensures .0)
+    let action = c .before .before .before .before .before .before .action in
+    let known = c .before .before .before .before in
+    passed-contest (sym (action .ensures) ∙ known .x .given .1) refl refl (c .contest .ensures .1) refl (c .contest .ensures .0)
 
 returns-2 : tie.Need-returns-2
 returns-2 c =
-    passed-contest (sym (c .before .before .before .before .before .before .action .ensures) ∙ c .before .before .before .before .x2 .given .1) refl refl (c .contest2 .ensures .1) refl (c .contest2 .ensures .0)
+    let action = c .before .before .before .before .before .before .action in
+    let known = c .before .before .before .before in
+    passed-contest (sym (action .ensures) ∙ known .x2 .given .1) refl refl (c .contest2 .ensures .1) refl (c .contest2 .ensures .0)
 
 returns-3 : tie.Need-returns-3
 returns-3 c =
-    passed-look (sym (c .before .before .before .before .before .before .action .ensures) ∙ c .before .before .before .before .x3 .given .1) refl (c .communications .ensures)
+    let action = c .before .before .before .before .before .before .action in
+    let known = c .before .before .before .before in
+    passed-look (sym (action .ensures) ∙ known .x3 .given .1) refl (c .communications .ensures)
 
 returns-4 : tie.Need-returns-4
 returns-4 c =
-    passed-look (sym (c .before .before .before .before .before .before .action .ensures) ∙ c .before .before .before .before .x4 .given .1) refl (c .communications2 .ensures)
+    let action = c .before .before .before .before .before .before .action in
+    let known = c .before .before .before .before in
+    passed-look (sym (action .ensures) ∙ known .x4 .given .1) refl (c .communications2 .ensures)
 
 returns-5 : tie.Need-returns-5
 returns-5 c =
-    passed-contest (sym (c .before .before .before .before .before .before .action .ensures) ∙ c .before .before .before .before .x5 .given .1) refl refl (c .contest3 .ensures .1) refl (c .contest3 .ensures .0)
+    let action = c .before .before .before .before .before .before .action in
+    let known = c .before .before .before .before in
+    passed-contest (sym (action .ensures) ∙ known .x5 .given .1) refl refl (c .contest3 .ensures .1) refl (c .contest3 .ensures .0)
 
 returns-6 : tie.Need-returns-6
 returns-6 c =
-    passed-release (sym (c .before .before .before .before .before .before .action .ensures) ∙ c .before .before .before .before .x6 .given .1) refl refl (c .release .ensures .1) refl (c .release .ensures .0)
+    let action = c .before .before .before .before .before .before .action in
+    let known = c .before .before .before .before in
+    passed-release (sym (action .ensures) ∙ known .x6 .given .1) refl refl (c .release .ensures .1) refl (c .release .ensures .0)
 
 returns-7 : tie.Need-returns-7
 returns-7 c =
-    passed-look (sym (c .before .before .before .before .before .before .action .ensures) ∙ c .before .before .before .before .x7 .given .1) refl (c .mutexes .ensures)
+    let action = c .before .before .before .before .before .before .action in
+    let known = c .before .before .before .before in
+    passed-look (sym (action .ensures) ∙ known .x7 .given .1) refl (c .mutexes .ensures)
 
 returns-8 : tie.Need-returns-8
 returns-8 c =
-    passed-look (sym (c .before .before .before .before .before .before .action .ensures) ∙ c .before .before .before .before .x8 .given .1) refl (c .mutexes2 .ensures)
+    let action = c .before .before .before .before .before .before .action in
+    let known = c .before .before .before .before in
+    passed-look (sym (action .ensures) ∙ known .x8 .given .1) refl (c .mutexes2 .ensures)
 
 returns-9 : tie.Need-returns-9
 returns-9 c =
-    passed-contest (sym (c .before .before .before .before .before .action .ensures) ∙ c .before .before .before .enum-told .given .1) refl refl (c .contest4 .ensures .1) refl (c .contest4 .ensures .0)
+    let action = c .before .before .before .before .before .action in
+    let known = c .before .before .before in
+    passed-contest (sym (action .ensures) ∙ known .enum-told .given .1) refl refl (c .contest4 .ensures .1) refl (c .contest4 .ensures .0)
 
 returns-10 : tie.Need-returns-10
 returns-10 c = passed-nothing (sym (c .before .action .ensures)) (no-post (posting x)) (no-look (looking x))
