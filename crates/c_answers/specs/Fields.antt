@@ -6,7 +6,8 @@ use mathlib.Core.Path.{_≡_}
 use mathlib.Core.List.{List}
 use Rattle.table.specs.Outcome.{Outcome, numberOf, positionOf}
 use Rattle.model.specs.Ready.{Ending, finished, stuck, going, ReadyAnswer}
-use Rattle.model.specs.Calls.{Result, gives, refuses, PairVerdict, independent, dependent, SameVerdict, same, different, Comparison}
+use Rattle.model.specs.Calls.{Result, gives, refuses, PairVerdict, independent, dependent, SameVerdict, same, different}
+use Rattle.model.specs.Comparison.{Comparison}
 use Rattle.model.specs.Recordings.{Recording, theFirst, theSecond, Part}
 use Rattle.model.specs.Route.{RightRoute}
 use Rattle.c_answers.specs.declared.OrderCheck.{OrderCheck}

@@ -11,7 +11,8 @@ use Rattle.trace.specs.Same.{equivalent}
 use Rattle.trace.specs.Search.{pairsCompared}
 use Rattle.model.specs.Site.{initial}
 use Rattle.model.specs.Schedule.{machine, firstNumbers, secondNumbers, checkSchedule}
-use Rattle.model.specs.Calls.{gives, refuses, answer, same as alike, different, sameChecks, comparisonOf}
+use Rattle.model.specs.Calls.{gives, refuses, answer, same as alike, different, sameChecks}
+use Rattle.model.specs.Comparison.{comparisonOf}
 use Rattle.model.proofs.Checks.{then-both, answer-given}
 use Rattle.answers.specs.declared.SameAnswer.{SameAnswer}
 use Rattle.answers.specs.Answers.{sameResult}

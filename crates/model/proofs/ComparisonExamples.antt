@@ -9,8 +9,7 @@ use Rattle.model.specs.Site.{initial}
 use Rattle.model.specs.Local.{cellsAfter}
 use Rattle.model.specs.Step.{ready, step}
 use Rattle.model.specs.Pair.{depends}
-use Rattle.model.specs.Calls.{comparisonOf}
-use Rattle.model.specs.Recordings.{prefixComparisonOf}
+use Rattle.model.specs.Comparison.{comparisonOf, prefixComparisonOf}
 use Rattle.model.specs.Claims.{AllHold}
 use Rattle.model.specs.ComparisonExamples.{comparisons}
 

@@ -12,7 +12,7 @@
 -- `SamePages`: exchanged schedules have the same page;
 -- `Over`: a step whose total would run over never becomes ready, and exchanged schedules meet it at the same entry;
 -- `RecordingLaws`: two recordings compared as far as both reach; the longer goes on from the shorter one's end;
--- `Comparisons`: the number of pairs compared tells the pair that ended the search;
+-- `ComparisonLaws`: the number of pairs compared tells the pair that ended the search;
 -- `Routes`: the route call's promise can be kept;
 -- `Beginnings`: a listing goes by the beginnings of its files alone.
 pub mod Upd
@@ -57,7 +57,7 @@ pub mod SamePages
 pub mod Over
 pub mod SameVerdicts
 pub mod RecordingLaws
-pub mod Comparisons
+pub mod ComparisonLaws
 pub mod Fills
 pub mod Ranked
 pub mod Scheduled

@@ -19,10 +19,11 @@ use Rattle.trace.proofs.Bools.{which}
 use Rattle.trace.proofs.Run.{final-append, accepted-append, accepted-after}
 use Rattle.model.specs.Site.{Site, initial}
 use Rattle.model.specs.Schedule.{machine, endState, checkFrom}
-use Rattle.model.specs.Calls.{gives, SameVerdict, same, different, sameOf, comparisonOf}
+use Rattle.model.specs.Calls.{gives, SameVerdict, same, different, sameOf}
 use Rattle.model.specs.Demand3.{Accepted}
 use Rattle.model.specs.Over.{GoOnAlike}
-use Rattle.model.specs.Recordings.{held, prefixOf, prefixComparisonOf, theFirst, theSecond, choose, Part, remainderOf, Slice, remainderIn}
+use Rattle.model.specs.Recordings.{held, prefixOf, theFirst, theSecond, choose, Part, remainderOf, Slice, remainderIn}
+use Rattle.model.specs.Comparison.{comparisonOf, prefixComparisonOf}
 use Rattle.model.specs.RecordingLaws.{left, longer, shorter, remainder, Split, Continues, EveryRecording}
 use Rattle.model.proofs.Checks.{checks-after}
 use Rattle.model.proofs.Demand3.{same-given, demand-3}

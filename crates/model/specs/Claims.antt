@@ -16,8 +16,9 @@ use Rattle.model.specs.Site.{Entry, initial}
 use Rattle.model.specs.Ready.{ReadyAnswer}
 use Rattle.model.specs.Report.{report}
 use Rattle.model.specs.Schedule.{machine, endState}
-use Rattle.model.specs.Calls.{Result, gives, refuses, Filled, reportRoom, runOf, readyOf, PairVerdict, pairOf, SameVerdict, sameOf, Comparison, comparisonOf}
-use Rattle.model.specs.Recordings.{prefixOf, prefixComparisonOf, Part, remainderOf, Slice, remainderIn}
+use Rattle.model.specs.Calls.{Result, gives, refuses, Filled, reportRoom, runOf, readyOf, PairVerdict, pairOf, SameVerdict, sameOf}
+use Rattle.model.specs.Recordings.{prefixOf, Part, remainderOf, Slice, remainderIn}
+use Rattle.model.specs.Comparison.{Comparison, comparisonOf, prefixComparisonOf}
 use Rattle.model.specs.Scheduler.{scheduleRoom}
 use Rattle.model.specs.Draw.{draw, drawOf}
 use Rattle.model.specs.Route.{routeChecks}

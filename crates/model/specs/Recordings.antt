@@ -7,7 +7,7 @@ use mathlib.Core.List.{List}
 use lib.Dec.{ltb}
 use lib.ListN.{length, take, drop}
 use denote.Ref.{RefT, ptr, now}
-use Rattle.model.specs.Calls.{Result, SameVerdict, sameOf, Comparison, comparisonOf}
+use Rattle.model.specs.Calls.{Result, SameVerdict, sameOf}
 
 -- ---- the verdict
 
@@ -18,10 +18,6 @@ held recording other = take (length other) recording
 -- "the same verdict is given on those parts", with its refusals, in its order; what follows the parts is not stepped
 unfoldable pub prefixOf : (table first second : List ℕ) → Result SameVerdict
 prefixOf table first second = sameOf table (held first second) (held second first)
-
--- what the call answers: the verdict, and how many pairs of steps of those parts were compared
-unfoldable pub prefixComparisonOf : (table first second : List ℕ) → Result Comparison
-prefixComparisonOf table first second = comparisonOf table (held first second) (held second first)
 
 -- ---- the remainder
 

@@ -21,8 +21,8 @@ use Rattle.model.specs.Site.{initial}
 use Rattle.model.specs.Schedule.{machine, firstNumbers, secondNumbers, checkSchedule}
 use Rattle.model.specs.Calls.{Result, gives, refuses, answer, SameVerdict, same as alike, different, sameChecks, sameOf}
 use Rattle.model.specs.Route.{mostExchanges, routeChecks, RouteWritten, RightAnswer, RightRoute}
-use Rattle.model.specs.Comparisons.{verdictIn}
-use Rattle.model.proofs.Comparisons.{verdicts}
+use Rattle.model.specs.ComparisonLaws.{verdictIn}
+use Rattle.model.proofs.ComparisonLaws.{verdicts}
 use Rattle.model.proofs.Checks.{checks-taken, given-accepted, gives-injective, answer-given}
 use Rattle.model.proofs.Demand3.{site-theorems}
 use Rattle.model.proofs.Routes.{route-written}

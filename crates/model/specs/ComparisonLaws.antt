@@ -1,4 +1,4 @@
--- What the number of pairs compared tells (document 02, W6), of every table that the reader accepts. `proofs/Comparisons.antt` proves it.
+-- What the number of pairs compared tells (document 02, W6), of every table that the reader accepts. `proofs/ComparisonLaws.antt` proves it.
 -- Assumes nothing: these are definitions.
 use Prim.Native.Nat.{ℕ, _+_, _*_, _-_, _/_, _<_}
 use mathlib.Core.Path.{_≡_}
@@ -13,8 +13,9 @@ use Rattle.trace.specs.Order.{before}
 use Rattle.trace.specs.Same.{sameSteps}
 use Rattle.model.specs.Site.{initial}
 use Rattle.model.specs.Schedule.{machine}
-use Rattle.model.specs.Calls.{Result, gives, refuses, pairOf, dependent, SameVerdict, same, different, sameOf, Comparison, comparisonOf}
-use Rattle.model.specs.Recordings.{prefixOf, prefixComparisonOf}
+use Rattle.model.specs.Calls.{Result, gives, refuses, pairOf, dependent, SameVerdict, same, different, sameOf}
+use Rattle.model.specs.Recordings.{prefixOf}
+use Rattle.model.specs.Comparison.{Comparison, comparisonOf, prefixComparisonOf}
 use Rattle.model.specs.Demand3.{Accepted, stepName}
 
 -- the verdict in an answer

@@ -18,10 +18,11 @@ use Rattle.trace.proofs.Numbered.{searched, search-judges, number-is}
 use Rattle.model.specs.Site.{initial}
 use Rattle.model.specs.Pair.{depends}
 use Rattle.model.specs.Schedule.{machine}
-use Rattle.model.specs.Calls.{gives, answer, pairOf, dependent, independent, SameVerdict, same, different, sameChecks, sameOf, Comparison, comparisonOf}
-use Rattle.model.specs.Recordings.{held, prefixOf, prefixComparisonOf}
+use Rattle.model.specs.Calls.{gives, answer, pairOf, dependent, independent, SameVerdict, same, different, sameChecks, sameOf}
+use Rattle.model.specs.Recordings.{held, prefixOf}
+use Rattle.model.specs.Comparison.{Comparison, comparisonOf, prefixComparisonOf}
 use Rattle.model.specs.Demand3.{Accepted, stepName}
-use Rattle.model.specs.Comparisons.{verdictIn, allPairs, numberTelling, Sooner, Crossed, FirstCrossed, Answers, EveryComparison}
+use Rattle.model.specs.ComparisonLaws.{verdictIn, allPairs, numberTelling, Sooner, Crossed, FirstCrossed, Answers, EveryComparison}
 use Rattle.model.proofs.Checks.{answer-given, gives-injective, steps-in-table}
 use Rattle.model.proofs.Demand3.{checks-both, pair-given, judged-dependent}
 use Rattle.model.proofs.SameVerdicts.{both-accepted}
