@@ -1,6 +1,6 @@
 -- What the number of pairs compared tells: the verdict, by the search through the pairs, and the pair that ended it.
 -- Assumes nothing.
-use Prim.Native.Nat.{ℕ, _+_, _<_}
+use Prim.Native.Nat.{ℕ, _+_, _-_, _<_, _≤_}
 use native.Mathlib.Omega.{arith}
 use mathlib.Core.Path.{_≡_, refl, sym, _∙_, ap}
 use mathlib.Core.Logic.{_⊎_, inl, inr, _↔_}
@@ -12,7 +12,7 @@ use Rattle.table.specs.Read.{readOf}
 use Rattle.trace.specs.Same.{sameSteps, equivalent}
 use Rattle.trace.specs.Search.{Search, comparedIn, hasEnded, opposedIn}
 use Rattle.trace.proofs.Bools.{which, contrary, is-false, both, and-left, and-right}
-use Rattle.trace.proofs.Triangle.{triangle, triangle-is, one-pair}
+use Rattle.trace.proofs.Triangle.{triangle, triangle-is, one-pair, some-pair}
 use Rattle.trace.proofs.Searched.{NoneBefore, Ends, search-none, search-ends, search-cases}
 use Rattle.trace.proofs.Numbered.{searched, search-judges, number-is}
 use Rattle.model.specs.Site.{initial}
@@ -37,6 +37,12 @@ same-not-different e = let z : _≡_ {A = ℕ} 0 1 = cc in omega arith
 -- the number of a pair, by the sum of the rows before it
 number-telling : (i j : ℕ) → triangle j + i + 1 ≡ numberTelling i j
 number-telling i j = ap (λ (t : ℕ). t + i + 1) (triangle-is j)
+
+each-number : (m n : ℕ) → 0 < n → n ≤ allPairs m → (i : ℕ) × (j : ℕ) × (i < j) × (j < m) × (n ≡ numberTelling i j)
+each-number m n h l = go (some-pair m (n - 1) (omega (arith, h, l, triangle-is m)))
+  where
+    go : (i : ℕ) × (j : ℕ) × (i < j) × (j < m) × (n - 1 ≡ triangle j + i) → (i : ℕ) × (j : ℕ) × (i < j) × (j < m) × (n ≡ numberTelling i j)
+    go s = (s .0, s .1, s .2, s .3, omega (arith, h, s .4, number-telling (s .0) (s .1)))
 
 module _ (table : List ℕ) where
   pub verdicts : (p q : List ℕ) → verdictIn (comparisonOf table p q) ≡ sameOf table p q
@@ -193,5 +199,6 @@ every-comparison table read =
       tells = λ p q n h some. tells table read p q n h some .1;
       told = λ p q i j hp hq. told table read p q hp hq i j;
       one-pair = λ i j k l h h' e. one-pair i j k l h h' (omega (arith, number-telling i j, number-telling k l, e));
+      some-pair = each-number;
       found = found table read;
     }

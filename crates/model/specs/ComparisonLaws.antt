@@ -1,6 +1,6 @@
 -- What the number of pairs compared tells (document 02, W6), of every table that the reader accepts. `proofs/ComparisonLaws.antt` proves it.
 -- Assumes nothing: these are definitions.
-use Prim.Native.Nat.{ℕ, _+_, _*_, _-_, _/_, _<_}
+use Prim.Native.Nat.{ℕ, _+_, _*_, _-_, _/_, _<_, _≤_}
 use mathlib.Core.Path.{_≡_}
 use mathlib.Core.Logic.{_⊎_, _↔_}
 use mathlib.Core.Bool.{true, false}
@@ -65,8 +65,9 @@ pub record Comparisons (table : List ℕ) : Type 0 where
       → (i : ℕ) × (j : ℕ) × FirstCrossed table p q i j × (n ≡ numberTelling i j)
   pub told : (p q : List ℕ) (i j : ℕ) → Accepted table p → Accepted table q → sameSteps (machine table) initial p q ≡ true → FirstCrossed table p q i j
       → Answers table p q different (numberTelling i j)
-  -- one pair for each number
+  -- one pair for each number from 1 on
   pub one-pair : (i j k l : ℕ) → i < j → k < l → numberTelling i j ≡ numberTelling k l → (i ≡ k) × (j ≡ l)
+  pub some-pair : (m n : ℕ) → 0 < n → n ≤ allPairs m → (i : ℕ) × (j : ℕ) × (i < j) × (j < m) × (n ≡ numberTelling i j)
   -- "different" with a number above 0 is said exactly where the two run the same steps and some pair is crossed
   pub found : (p q : List ℕ) → Accepted table p → Accepted table q
       → ((n : ℕ) × (0 < n) × Answers table p q different n)

@@ -50,3 +50,16 @@ one-pair i j k l h h' e = go (which (ltb j l)) (which (ltb l j))
         let same : j ≡ l = omega (arith, ltb-false j l f, ltb-false l j g) in
         let e' : triangle l + i ≡ triangle l + k = rw same at e in
         (omega (arith, e'), same)
+
+-- and each number is that of some pair
+pub some-pair : (m n : ℕ) → n < triangle m → (i : ℕ) × (j : ℕ) × (i < j) × (j < m) × (n ≡ triangle j + i)
+some-pair zero n h = absurd (not-suc-le-zero h)
+some-pair (suc m) n h = go (which (ltb n (triangle m))) (some-pair m n)
+  where
+    go : (ltb n (triangle m) ≡ true) ⊎ (ltb n (triangle m) ≡ false)
+        → (n < triangle m → (i : ℕ) × (j : ℕ) × (i < j) × (j < m) × (n ≡ triangle j + i))
+        → (i : ℕ) × (j : ℕ) × (i < j) × (j < suc m) × (n ≡ triangle j + i)
+    go (inl t) rest = let r = rest (ltb-true n (triangle m) t) in (r .0, r .1, r .2, omega (arith, r .3), r .4)
+    go (inr f) rest =
+        let over : triangle m ≤ n = ltb-false n (triangle m) f in
+        (n - triangle m, m, omega arith, omega arith, omega arith)
