@@ -5,8 +5,8 @@ use native.Mathlib.Nat.{le-of-suc-le-suc, not-suc-le-zero, eq-or-lt-of-le}
 use native.Mathlib.Omega.{arith}
 use mathlib.Core.Path.{_≡_, refl, _∙_, ap}
 use mathlib.Core.Logic.{_⊎_, inl, inr}
-use mathlib.Core.Bool.{Bool, true, false, _&&_, _||_, false≢true}
-use Rattle.trace.proofs.Bools.{contrary, is-false, or-left, or-right, or-cases}
+use mathlib.Core.Bool.{Bool, true, false, _||_, false≢true}
+use Rattle.trace.proofs.Bools.{contrary, is-false, or-left, or-right, or-cases, or-crosswise}
 use Rattle.equivalence.specs.Parts.{someBelow}
 
 pub some-below : (f : ℕ → Bool) (n i : ℕ) → i < n → f i ≡ true → someBelow f n ≡ true
@@ -44,18 +44,4 @@ below-alike f g (suc n) alike =
 pub below-either : (f g : ℕ → Bool) (n : ℕ) → someBelow (λ i. f i || g i) n ≡ (someBelow f n || someBelow g n)
 below-either f g zero = refl
 below-either f g (suc n) =
-    ap (λ (b : Bool). b || (f n || g n)) (below-either f g n) ∙ crosswise (someBelow f n) (someBelow g n) (f n) (g n)
-  where
-    crosswise : (a b c d : Bool) → ((a || b) || (c || d)) ≡ ((a || c) || (b || d))
-    crosswise true b c d = refl
-    crosswise false true true d = refl
-    crosswise false true false d = refl
-    crosswise false false c d = refl
-
--- what two tests share
-pub shared-out : (a b t : Bool) → ((a && t) || (b && t)) ≡ ((a || b) && t)
-shared-out true true true = refl
-shared-out true false true = refl
-shared-out true true false = refl
-shared-out true false false = refl
-shared-out false b t = refl
+    ap (λ (b : Bool). b || (f n || g n)) (below-either f g n) ∙ or-crosswise (someBelow f n) (someBelow g n) (f n) (g n)

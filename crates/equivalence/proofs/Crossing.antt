@@ -10,7 +10,7 @@ use borrow.Author.Tests.{ltb-true}
 use lib.Dec.{ltb}
 use lib.ListN.{getD}
 use Rattle.trace.specs.Machine.{Name}
-use Rattle.trace.proofs.Bools.{which}
+use Rattle.trace.proofs.Bools.{which, and-shared}
 use Rattle.model.proofs.PairCases.{depends-symmetric}
 use Rattle.names.specs.InByte.{nameOf}
 use Rattle.footprint.specs.Resources.{posted, contested, looked, share, clash}
@@ -18,7 +18,7 @@ use Rattle.footprint.specs.Latest.{latestOf, latestMet}
 use Rattle.footprint.proofs.Raised.{before-later}
 use Rattle.footprint.proofs.ClashDepends.{clash-depends}
 use Rattle.equivalence.specs.Parts.{someBelow, crosses, Placed}
-use Rattle.equivalence.proofs.Below.{below-alike, below-either, shared-out}
+use Rattle.equivalence.proofs.Below.{below-alike, below-either}
 use Rattle.equivalence.proofs.Latest.{Latest, latest-some}
 
 module _ (table first places : List ℕ) where
@@ -51,10 +51,10 @@ module _ (table first places : List ℕ) where
         (latest-some (λ i. looked table (stepAt i)) placeAt looks j (placeAt j) (posted table (stepAt j)) seen)
         (latest-some (λ i. posted table (stepAt i)) placeAt posts j (placeAt j) (looked table (stepAt j)) before)
         ∙ sym (below-either (λ i. share (posted table (stepAt j)) (looked table (stepAt i)) && later i) (λ i. share (looked table (stepAt j)) (posted table (stepAt i)) && later i) j)
-        ∙ below-alike _ _ j (λ i h. shared-out (share (posted table (stepAt j)) (looked table (stepAt i))) (share (looked table (stepAt j)) (posted table (stepAt i))) (later i)))
+        ∙ below-alike _ _ j (λ i h. and-shared (share (posted table (stepAt j)) (looked table (stepAt i))) (share (looked table (stepAt j)) (posted table (stepAt i))) (later i)))
         ∙ sym (below-either (λ i. share (contested table (stepAt j)) (posted table (stepAt i)) && later i)
         (λ i. (share (posted table (stepAt j)) (looked table (stepAt i)) || share (looked table (stepAt j)) (posted table (stepAt i))) && later i) j)
-        ∙ below-alike _ _ j (λ i h. shared-out (share (contested table (stepAt j)) (posted table (stepAt i))) _ (later i))
+        ∙ below-alike _ _ j (λ i h. and-shared (share (contested table (stepAt j)) (posted table (stepAt i))) _ (later i))
 
     module _ (m : ℕ) (placed : Placed table first places m) (here : j < m) where
       apart : (i : ℕ) → i < j → later i ≡ true → stepAt j .actor ≢ stepAt i .actor

@@ -9,13 +9,14 @@ use borrow.Author.Tests.{le-ltb}
 use lib.Dec.{ltb}
 use lib.ListN.{length, getD, replicate}
 use Rattle.trace.specs.Order.{has}
+use Rattle.trace.proofs.Bools.{and-shared}
 use Rattle.model.specs.Pair.{anyOf}
 use Rattle.names.specs.Steps.{Each}
 use Rattle.footprint.specs.Resources.{share}
 use Rattle.footprint.specs.Latest.{latestOf, raised}
 use Rattle.footprint.proofs.Raised.{latest-test, raised-test}
 use Rattle.equivalence.specs.Parts.{someBelow}
-use Rattle.equivalence.proofs.Below.{none-below, below-alike, below-either, shared-out}
+use Rattle.equivalence.proofs.Below.{none-below, below-alike, below-either}
 
 -- `touched` says which resources the step i touches, `place` where it stands in the second list
 module _ (touched : ℕ → List ℕ) (place : ℕ → ℕ) where
@@ -49,7 +50,7 @@ module _ (touched : ℕ → List ℕ) (place : ℕ → ℕ) where
   touched-some p j (r ∷ l) =
       ap (λ (b : Bool). someBelow (λ i. has (touched i) r && ltb p (place i)) j || b) (touched-some p j l)
       ∙ sym (below-either (λ i. has (touched i) r && ltb p (place i)) (λ i. share l (touched i) && ltb p (place i)) j)
-      ∙ below-alike _ _ j (λ i h. shared-out (has (touched i) r) (share l (touched i)) (ltb p (place i)))
+      ∙ below-alike _ _ j (λ i h. and-shared (has (touched i) r) (share l (touched i)) (ltb p (place i)))
 
   any-alike : (f g : ℕ → Bool) → ((r : ℕ) → f r ≡ g r) → (l : List ℕ) → anyOf f l ≡ anyOf g l
   any-alike f g same [] = refl

@@ -2,10 +2,11 @@
 -- Assumes only that mailboxes and mutexes are below 8.
 use Prim.Native.Nat.{ℕ, _<_}
 use mathlib.Core.Path.{_≡_, refl, sym, _∙_, ap, ap₂}
-use mathlib.Core.Bool.{Bool, true, false, _||_}
+use mathlib.Core.Bool.{Bool, false, _||_}
 use mathlib.Core.List.{List, [], _∷_, _++_}
 use lib.Dec.{eqb, lit<}
 use Rattle.trace.specs.Order.{has}
+use Rattle.trace.proofs.Bools.{or-regroup, or-crosswise}
 use Rattle.model.specs.Site.{Side, sends, receives, Port, opposite}
 use Rattle.model.specs.Views.{Post, silent, mails, joins, leaves, notes, Look, blind, communications, mutexes}
 use Rattle.model.specs.Pair.{competes, answers, anyOf, meets}
@@ -48,13 +49,7 @@ none-shared (r ∷ l) = none-shared l
 
 any-either : (f g : ℕ → Bool) (l : List ℕ) → anyOf (λ r. f r || g r) l ≡ (anyOf f l || anyOf g l)
 any-either f g [] = refl
-any-either f g (r ∷ l) = ap (λ (b : Bool). (f r || g r) || b) (any-either f g l) ∙ crosswise (f r) (g r) (anyOf f l) (anyOf g l)
-  where
-    crosswise : (a b c d : Bool) → ((a || b) || (c || d)) ≡ ((a || c) || (b || d))
-    crosswise true b c d = refl
-    crosswise false true true d = refl
-    crosswise false true false d = refl
-    crosswise false false c d = refl
+any-either f g (r ∷ l) = ap (λ (b : Bool). (f r || g r) || b) (any-either f g l) ∙ or-crosswise (f r) (g r) (anyOf f l) (anyOf g l)
 
 pub share-symmetric : (l m : List ℕ) → share l m ≡ share m l
 share-symmetric [] m = sym (none-shared m)
@@ -88,13 +83,9 @@ posts-clash notes notes h k = refl
 
 -- ---- a look and a post
 
-regrouped : (a b c : Bool) → (a || (b || c)) ≡ ((a || b) || c)
-regrouped true b c = refl
-regrouped false b c = refl
-
 share-joined : (l l' m : List ℕ) → share (l ++ l') m ≡ (share l m || share l' m)
 share-joined [] l' m = refl
-share-joined (r ∷ l) l' m = ap (λ (b : Bool). has m r || b) (share-joined l l' m) ∙ regrouped (has m r) (share l m) (share l' m)
+share-joined (r ∷ l) l' m = ap (λ (b : Bool). has m r || b) (share-joined l l' m) ∙ or-regroup (has m r) (share l m) (share l' m)
 
 -- the resources of a list are shared where those of some number in it are
 all-share : {P : ℕ → Type 0} (f : ℕ → List ℕ) (g : ℕ → Bool) (m : List ℕ) → ((k : ℕ) → P k → share (f k) m ≡ g k)

@@ -12,9 +12,9 @@ use Rattle.model.specs.Site.{name}
 use Rattle.model.specs.Views.{Post, silent, Look, blind, posts, looks}
 use Rattle.model.specs.Pair.{postAt}
 use Rattle.names.specs.Steps.{Stands}
-use Rattle.footprint.specs.Resources.{postedTo, contestedBy, lookedAt, SmallPost, LookStands}
+use Rattle.footprint.specs.Resources.{postedTo, contestedBy, lookedAt, SmallPost}
 use Rattle.footprint.specs.Latest.{latestOf, raised, Looked, Passed}
-use Rattle.footprint.proofs.Ranges.{small-post, look-stands}
+use Rattle.footprint.proofs.Ranges.{LookStands, small-post, look-stands}
 
 module _ {table : List ℕ} {a k : ℕ} {y : Action} where
   -- ---- what is known of the action

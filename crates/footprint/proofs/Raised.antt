@@ -12,7 +12,7 @@ use lib.ListN.{length, getD, set, length-set}
 use lib.Seq.{getD-set-same, getD-set-other}
 use Rattle.trace.specs.Machine.{Name}
 use Rattle.trace.specs.Order.{has}
-use Rattle.trace.proofs.Bools.{which}
+use Rattle.trace.proofs.Bools.{which, or-regroup, and-shared}
 use Rattle.model.specs.Pair.{anyOf}
 use Rattle.names.specs.Steps.{Each}
 use Rattle.footprint.specs.Resources.{posted, looked}
@@ -47,20 +47,14 @@ one-raised latest q p r s h = go (which (eqb s r))
         rw f
         (ap (ltb p) (getD-set-other latest r s (max (getD latest r 0) q) 0 (eqb-false s r f)) ∙ sym (or-false (ltb p (getD latest s 0))))
 
-gathered : (a b c t : Bool) → ((a || (b && t)) || (c && t)) ≡ (a || ((b || c) && t))
-gathered true b c t = refl
-gathered false true c true = refl
-gathered false true true false = refl
-gathered false true false false = refl
-gathered false false c t = refl
-
 pub raised-test : (q : ℕ) (l latest : List ℕ) (p s : ℕ) → Each (λ r. r < length latest) l
     → ltb p (getD (raised q l latest) s 0) ≡ (ltb p (getD latest s 0) || (has l s && ltb p q))
 raised-test q [] latest p s fit = sym (or-false (ltb p (getD latest s 0)))
 raised-test q (r ∷ l) latest p s fit =
     raised-test q l (set latest r (max (getD latest r 0) q)) p s (rw (length-set latest r (max (getD latest r 0) q)) (fit .1))
     ∙ ap (λ (b : Bool). b || (has l s && ltb p q)) (one-raised latest q p r s (fit .0))
-    ∙ gathered (ltb p (getD latest s 0)) (eqb s r) (has l s) (ltb p q)
+    ∙ sym (or-regroup (ltb p (getD latest s 0)) (eqb s r && ltb p q) (has l s && ltb p q))
+    ∙ ap (λ (b : Bool). ltb p (getD latest s 0) || b) (and-shared (eqb s r) (has l s) (ltb p q))
 
 pub raised-long : (q : ℕ) (l latest : List ℕ) → length (raised q l latest) ≡ length latest
 raised-long q [] latest = refl

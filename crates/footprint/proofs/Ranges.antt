@@ -19,7 +19,13 @@ use Rattle.model.specs.Pair.{postAt}
 use Rattle.model.proofs.ByKind.{Posting, quiet, sends-to, receives-from, locks, unlocks, writes-down, posting, Looking, blindly, testing, mutex-testing, looking}
 use Rattle.names.specs.Steps.{Stands, Each}
 use Rattle.names.proofs.Listed.{each-listed, each-map, listed-standing}
-use Rattle.footprint.specs.Resources.{resource, sideGroup, unlockGroup, portResource, postedTo, awaitedBy, allOf, lookedAt, SmallPost, SmallLook, LookStands, posted, looked}
+use Rattle.footprint.specs.Resources.{resource, sideGroup, unlockGroup, portResource, postedTo, awaitedBy, allOf, lookedAt, SmallPost, SmallLook, posted, looked}
+
+-- what a look of an actor names stands in the table
+abbrev pub LookStands : List ℕ → ℕ → Look → Type 0
+LookStands table a blind = Unit {0}
+LookStands table a (communications l) = Each (λ k. Stands table (name a k)) l
+LookStands table a (mutexes l) = Each (λ m. m < 8) l
 
 module _ (table : List ℕ) (accepted : WellFormed table) where
   post-small : (a k : ℕ) (x : Action) → InRange table a k x → SmallPost (posts x)

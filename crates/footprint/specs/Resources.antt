@@ -6,11 +6,11 @@ use mathlib.Core.Bool.{Bool, _||_}
 use mathlib.Core.List.{List, [], _∷_, _++_}
 use Rattle.trace.specs.Machine.{Name}
 use Rattle.trace.specs.Order.{has}
-use Rattle.model.specs.Site.{name, Side, sends, receives, Port, opposite}
+use Rattle.model.specs.Site.{Side, sends, receives, Port, opposite}
 use Rattle.model.specs.Views.{Post, silent, mails, joins, leaves, notes, posts, Look, blind, communications, mutexes, looks}
 use Rattle.model.specs.Step.{actionAt}
 use Rattle.model.specs.Pair.{anyOf, postAt}
-use Rattle.names.specs.Steps.{Stands, Each}
+use Rattle.names.specs.Steps.{Each}
 
 -- a resource: one of a group's eight, for a mailbox or a mutex
 abbrev pub resource : (group number : ℕ) → ℕ
@@ -89,12 +89,6 @@ SmallLook own (mutexes l) = Each (λ m. m < 8) l
 -- ---- a step of a table
 
 module _ (table : List ℕ) where
-  -- what a look of an actor names stands in the table
-  abbrev pub LookStands : ℕ → Look → Type 0
-  LookStands a blind = Unit {0}
-  LookStands a (communications l) = Each (λ k. Stands table (name a k)) l
-  LookStands a (mutexes l) = Each (λ m. m < 8) l
-
   abbrev pub posted : Name → List ℕ
   posted x = postedTo (posts (actionAt table x))
 

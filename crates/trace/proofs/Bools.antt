@@ -45,3 +45,21 @@ or-false-left false b h = refl
 pub or-false-right : (a b : Bool) → (a || b) ≡ false → b ≡ false
 or-false-right true b h = absurd (true≢false h)
 or-false-right false b h = h
+
+pub or-regroup : (a b c : Bool) → (a || (b || c)) ≡ ((a || b) || c)
+or-regroup true b c = refl
+or-regroup false b c = refl
+
+pub or-crosswise : (a b c d : Bool) → ((a || b) || (c || d)) ≡ ((a || c) || (b || d))
+or-crosswise true b c d = refl
+or-crosswise false true true d = refl
+or-crosswise false true false d = refl
+or-crosswise false false c d = refl
+
+-- what two tests share
+pub and-shared : (a b t : Bool) → ((a && t) || (b && t)) ≡ ((a || b) && t)
+and-shared true true true = refl
+and-shared true false true = refl
+and-shared true true false = refl
+and-shared true false false = refl
+and-shared false b t = refl

@@ -19,6 +19,7 @@ use Rattle.trace.proofs.Remove.{remove-gone}
 use Rattle.trace.proofs.Linked.{Linked}
 use Rattle.trace.proofs.SameNames.{SameNames, same-nil, same-head, same-tail}
 use Rattle.trace.proofs.Count.{one-at-most, count-swap, count-le, count-same, count-none, count-remove}
+use Rattle.trace.proofs.Triangle.{triangle, triangle-is}
 
 -- ---- no chain is shorter
 
@@ -101,18 +102,9 @@ route-length (y ∷ v) u b a =
 
 -- ---- the bound: there are no more than m · (m - 1) / 2 pairs
 
-down : (n : ℕ) → suc n - 1 ≡ n
-down n = omega arith
-
-pairs-more : (n c i : ℕ) → c ≤ n → i * 2 ≤ n * (n - 1) → (c + i) * 2 ≤ suc n * (suc n - 1)
-pairs-more zero c i hc hi = omega arith
-pairs-more (suc n) c i hc hi =
-    let h : i * 2 ≤ suc n * n = rw (down n) at hi in
-    rw (down (suc n)) (omega arith)
-
-pairs : (u v : List Name) → inversions u v * 2 ≤ length u * (length u - 1)
-pairs [] v = omega arith
-pairs (x ∷ u) v = pairs-more (length u) (count (λ y. before y x v) u) (inversions u v) (count-le (λ y. before y x v) u) (pairs u v)
+few : (u v : List Name) → inversions u v ≤ triangle (length u)
+few [] v = omega arith
+few (x ∷ u) v = omega (arith, count-le (λ y. before y x v) u, few u v)
 
 pub inversions-bound : (u v : List Name) → inversions u v ≤ (length u * (length u - 1)) / 2
-inversions-bound u v = omega (arith, pairs u v)
+inversions-bound u v = omega (arith, few u v, triangle-is (length u))

@@ -14,8 +14,8 @@ pub mod Verdict
 pub mod Symmetric
 pub mod SameChained
 pub mod Count
-pub mod Inversions
 pub mod Triangle
+pub mod Inversions
 pub mod Searched
 pub mod Places
 pub mod Numbered
