@@ -46,13 +46,13 @@ module _ (table first places : List ℕ) (m : ℕ) where
     pub so-far : searchOf table first places j ≡ going pairs
     pub few : pairs ≤ 256 * j
 
-  pub search-begins : Searching (replicate 40 0) (replicate 40 0) 0 0
+  pub search-begins : Searching (replicate 96 0) (replicate 96 0) 0 0
   search-begins =
       record {
         most = omega arith;
-        rooms = record { posts-long = length-replicate {A = ℕ} 40 0; looks-long = length-replicate {A = ℕ} 40 0 };
-        before = latest-begins _ _ 40;
-        seen = latest-begins _ _ 40;
+        rooms = record { posts-long = length-replicate {A = ℕ} 96 0; looks-long = length-replicate {A = ℕ} 96 0 };
+        before = latest-begins _ _ 96;
+        seen = latest-begins _ _ 96;
         so-far = refl;
         few = omega arith;
       }

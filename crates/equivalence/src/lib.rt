@@ -71,8 +71,8 @@ fn searched(table: &[u8], first: &[u8; 256], places: &[u16; 256], m: usize) -> C
     requires { ⌜ Placed (now table) (now first) (now places) m ⌝ }
     ensures { λ r. ⌜ Found (searchOf (now (table .entry)) (now (first .entry)) (now (places .entry)) m) r ⌝ }
 {
-    let mut posts = [0u16; 40];
-    let mut looks = [0u16; 40];
+    let mut posts = [0u16; 96];
+    let mut looks = [0u16; 96];
     let mut pairs = 0;
     let mut j = 0;
     while j < m {

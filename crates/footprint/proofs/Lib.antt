@@ -6,3 +6,4 @@ pub mod Ranges
 pub mod Raised
 pub mod Lists
 pub mod Passes
+pub mod Numbered

@@ -78,45 +78,45 @@ module _ (table : List ℕ) (accepted : WellFormed table) where
   pub small-look : (x : Name) → Stands table x → SmallLook (postAt table (x .actor)) (looks (actionAt table x))
   small-look x s = look-small (x .actor) (looks (actionAt table x)) (look-stands x s)
 
--- ---- every resource is one of forty
+-- ---- every resource is one of 96
 
-port-few : (p : Port) → p .mailbox < 8 → portResource p < 40
+port-few : (p : Port) → p .mailbox < 8 → portResource p < 96
 port-few p h = omega (arith, h, side-few (p .side))
   where
-    side-few : (d : Side) → sideGroup d < 2
+    side-few : (d : Side) → sideGroup d < 5
     side-few sends = lit< tt
     side-few receives = lit< tt
 
-posted-few : (p : Post) → SmallPost p → Each (λ r. r < 40) (postedTo p)
+posted-few : (p : Post) → SmallPost p → Each (λ r. r < 96) (postedTo p)
 posted-few silent h = tt
 posted-few (mails p) h = (port-few p h, tt)
 posted-few (joins m) h = (omega (arith, h), tt)
 posted-few (leaves m) h = (omega (arith, h), tt)
 posted-few notes h = (lit< tt, tt)
 
-awaited-few : (p : Post) → SmallPost p → Each (λ r. r < 40) (awaitedBy p)
+awaited-few : (p : Post) → SmallPost p → Each (λ r. r < 96) (awaitedBy p)
 awaited-few silent h = tt
 awaited-few (mails p) h = (port-few (opposite p) h, tt)
 awaited-few (joins m) h = tt
 awaited-few (leaves m) h = tt
 awaited-few notes h = tt
 
-few-joined : (l m : List ℕ) → Each (λ r. r < 40) l → Each (λ r. r < 40) m → Each (λ r. r < 40) (l ++ m)
+few-joined : (l m : List ℕ) → Each (λ r. r < 96) l → Each (λ r. r < 96) m → Each (λ r. r < 96) (l ++ m)
 few-joined [] m e f = f
 few-joined (k ∷ l) m e f = (e .0, few-joined l m (e .1) f)
 
-all-few : {P : ℕ → Type 0} (f : ℕ → List ℕ) → ((k : ℕ) → P k → Each (λ r. r < 40) (f k)) → (l : List ℕ) → Each P l → Each (λ r. r < 40) (allOf f l)
+all-few : {P : ℕ → Type 0} (f : ℕ → List ℕ) → ((k : ℕ) → P k → Each (λ r. r < 96) (f k)) → (l : List ℕ) → Each P l → Each (λ r. r < 96) (allOf f l)
 all-few f one [] e = tt
 all-few f one (k ∷ l) e = few-joined (f k) (allOf f l) (one k (e .0)) (all-few f one l (e .1))
 
-looked-few : (own : ℕ → Post) (y : Look) → SmallLook own y → Each (λ r. r < 40) (lookedAt own y)
+looked-few : (own : ℕ → Post) (y : Look) → SmallLook own y → Each (λ r. r < 96) (lookedAt own y)
 looked-few own blind h = tt
 looked-few own (communications l) h = all-few (λ k. awaitedBy (own k)) (λ k s. awaited-few (own k) s) l h
 looked-few own (mutexes l) h = all-few (λ m. resource unlockGroup m ∷ []) (λ m s. (omega (arith, s), tt)) l h
 
 module _ (table : List ℕ) (accepted : WellFormed table) (x : Name) (s : Stands table x) where
-  pub posted-fit : Each (λ r. r < 40) (posted table x)
+  pub posted-fit : Each (λ r. r < 96) (posted table x)
   posted-fit = posted-few (posts (actionAt table x)) (small-post table accepted x s)
 
-  pub looked-fit : Each (λ r. r < 40) (looked table x)
+  pub looked-fit : Each (λ r. r < 96) (looked table x)
   looked-fit = looked-few (postAt table (x .actor)) (looks (actionAt table x)) (small-look table accepted x s)

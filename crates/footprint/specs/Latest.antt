@@ -3,12 +3,13 @@
 -- Assumes nothing: these are definitions.
 use Prim.Native.Nat.{ℕ, max}
 use mathlib.Core.Path.{_≡_}
+use mathlib.Core.Logic.{_≢_}
 use mathlib.Core.Bool.{cond}
 use mathlib.Core.List.{List, [], _∷_}
 use lib.Dec.{leb}
 use lib.ListN.{length, getD, set}
 use Rattle.trace.specs.Machine.{Name}
-use Rattle.footprint.specs.Resources.{posted, contested, looked}
+use Rattle.footprint.specs.Resources.{unlockGroup, posted, contested, looked}
 
 -- the latest place of some resources
 abbrev pub latestOf : List ℕ → List ℕ → ℕ
@@ -22,8 +23,14 @@ raised place (r ∷ l) latest = raised place l (set latest r (max (getD latest r
 
 -- room for all resources
 pub record Rooms (posts looks : List ℕ) : Type 0 where
-  pub posts-long : length posts ≡ 40
-  pub looks-long : length looks ≡ 40
+  pub posts-long : length posts ≡ 96
+  pub looks-long : length looks ≡ 96
+
+-- a post to a resource: the latest place of the looks at it and, unless it is an Unlock, of the posts to it; and its own place among the posts
+pub record Posted (kind r place : ℕ) (posts looks posts' : List ℕ) (met : ℕ) : Type 0 where
+  pub contested-met : kind ≢ unlockGroup → met ≡ max (getD posts r 0) (getD looks r 0)
+  pub released-met : kind ≡ unlockGroup → met ≡ getD looks r 0
+  pub raised-there : posts' ≡ set posts r (max (getD posts r 0) place)
 
 -- a look at some resources: the latest place of the posts to them, and its own place among the looks
 pub record Looked (l : List ℕ) (place : ℕ) (posts looks looks' : List ℕ) (r : ℕ) : Type 0 where

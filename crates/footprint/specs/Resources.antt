@@ -4,6 +4,7 @@
 use Prim.Native.Nat.{ℕ, _+_, _*_, _<_}
 use mathlib.Core.Bool.{Bool, _||_}
 use mathlib.Core.List.{List, [], _∷_, _++_}
+use lib.Dec.{eqb}
 use Rattle.trace.specs.Machine.{Name}
 use Rattle.trace.specs.Order.{has}
 use Rattle.model.specs.Site.{Side, sends, receives, Port, opposite}
@@ -16,19 +17,23 @@ use Rattle.names.specs.Steps.{Each}
 abbrev pub resource : (group number : ℕ) → ℕ
 resource group number = 8 * group + number
 
--- the groups: the two sides of the mailboxes, the mutexes as locked, the journal, and the mutexes as unlocked
+-- the groups, by the kind that posts to them: the two sides of the mailboxes, the mutexes as locked and as unlocked, and the journal
 abbrev pub sideGroup : Side → ℕ
-sideGroup sends = 0
-sideGroup receives = 1
+sideGroup sends = 3
+sideGroup receives = 4
 
 abbrev pub lockGroup : ℕ
-lockGroup = 2
-
-abbrev pub journalGroup : ℕ
-journalGroup = 3
+lockGroup = 7
 
 abbrev pub unlockGroup : ℕ
-unlockGroup = 4
+unlockGroup = 8
+
+abbrev pub journalGroup : ℕ
+journalGroup = 11
+
+-- whether a kind posts to a mailbox or a mutex, so that its p is the resource's number
+abbrev pub numbered : ℕ → Bool
+numbered kind = eqb kind 3 || (eqb kind 4 || (eqb kind 7 || eqb kind 8))
 
 abbrev pub portResource : Port → ℕ
 portResource p = resource (sideGroup (p .side)) (p .mailbox)
@@ -85,6 +90,14 @@ abbrev pub SmallLook : (ℕ → Post) → Look → Type 0
 SmallLook own blind = Unit {0}
 SmallLook own (communications l) = Each (λ k. SmallPost (own k)) l
 SmallLook own (mutexes l) = Each (λ m. m < 8) l
+
+-- a post to neither a mailbox nor a mutex
+abbrev pub Unnumbered : Post → Type 0
+Unnumbered silent = Unit {0}
+Unnumbered (mails p) = ⊥
+Unnumbered (joins m) = ⊥
+Unnumbered (leaves m) = ⊥
+Unnumbered notes = Unit {0}
 
 -- ---- a step of a table
 

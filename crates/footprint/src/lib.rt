@@ -9,43 +9,82 @@ ghost use Rattle.model.specs.Site.{name};
 ghost use Rattle.model.specs.Views.{listed as listedIn, posts as postsOf};
 ghost use Rattle.model.specs.Pair.{postAt};
 ghost use Rattle.names.specs.Steps.{Stands, Each};
-ghost use Rattle.footprint.specs.Resources.{resource, unlockGroup, awaitedBy, allOf, SmallPost};
-ghost use Rattle.footprint.specs.Latest.{Rooms, Passed, Looked, upTo};
+ghost use Rattle.footprint.specs.Resources.{resource, unlockGroup, numbered, awaitedBy, allOf, SmallPost, Unnumbered};
+ghost use Rattle.footprint.specs.Latest.{Rooms, Posted, Passed, Looked, upTo};
 use table::Action;
 use table::Numbers;
 
-// The resources: eight of each group, for a mailbox or a mutex; of the journal's one alone is used.
-const SENDS: usize = 0;
+// The resources: eight of each group, for a mailbox or a mutex; of the journal's one alone is used. A group begins at eight times its kind.
+const SENDS: usize = 24;
 
-const RECEIVES: usize = 8;
+const RECEIVES: usize = 32;
 
-const LOCKS: usize = 16;
+const UNLOCKS: usize = 64;
 
-const JOURNAL: usize = 24;
-
-const UNLOCKS: usize = 32;
+const JOURNAL: usize = 88;
 
 // The latest place of the steps so far that this step must not change places with, 0 where there is none. The step is then one of those so far, with its
-// own place.
+// own place. A post is told from its kind's number: one test for four kinds.
 pub fn pass(
     table: &[u8],
     a: usize,
     k: usize,
     place: u16,
-    posts: &mut [u16; 40],
-    looks: &mut [u16; 40],
+    posts: &mut [u16; 96],
+    looks: &mut [u16; 96],
 ) -> u16
     requires { ⌜ WellFormed (now table) × Stands (now table) (name a k) × Rooms (now posts) (now looks) ⌝ }
     ensures { λ r. ⌜ Passed (now (table .entry)) (name a k) place (now (posts .entry)) (now (looks .entry)) (now (posts .exit)) (now (looks .exit)) r ⌝ }
 {
+    let kind = table::within::kind(table, a, k);
+    if is_numbered(kind) {
+        let number = table::within::target(table, a, k);
+        return post(kind, number, place, posts, looks);
+    }
+    pass_other(table, a, k, place, posts, looks)
+}
+
+// Whether a kind is Send, Receive, Lock or Unlock.
+fn is_numbered(kind: usize) -> bool
+    ensures { λ r. ⌜ r ≡ numbered kind ⌝ }
+{
+    match kind {
+        3 => true,
+        4 => true,
+        7 => true,
+        8 => true,
+        _ => false,
+    }
+}
+
+// A post to a mailbox's side or a mutex. Unlocks alone are independent of one another.
+fn post(kind: usize, number: usize, place: u16, posts: &mut [u16; 96], looks: &[u16; 96]) -> u16
+    requires { ⌜ (kind < 12) × (number < 8) × Rooms (now posts) (now looks) ⌝ }
+    ensures { λ met. ⌜ Posted kind (resource kind number) place (now (posts .entry)) (now (looks .entry)) (now (posts .exit)) met ⌝ }
+{
+    let r = 8 * kind + number;
+    if kind == 8 {
+        return release(r, place, posts, looks);
+    }
+    contest(r, place, posts, looks)
+}
+
+// The same of any other step: it looks, or it is a Note, or it touches nothing.
+fn pass_other(
+    table: &[u8],
+    a: usize,
+    k: usize,
+    place: u16,
+    posts: &mut [u16; 96],
+    looks: &mut [u16; 96],
+) -> u16
+    requires { ⌜ WellFormed (now table) × Stands (now table) (name a k) × Rooms (now posts) (now looks) × Unnumbered (postAt (now table) a k) ⌝ }
+    ensures { λ r. ⌜ Passed (now (table .entry)) (name a k) place (now (posts .entry)) (now (looks .entry)) (now (posts .exit)) (now (looks .exit)) r ⌝ }
+{
     let x = table::within::action(table, a, k);
     match x {
-        Action::Send { mailbox, cell: _ } => contest(SENDS + mailbox, place, posts, looks),
-        Action::Receive { mailbox, cell: _ } => contest(RECEIVES + mailbox, place, posts, looks),
         Action::TestAny { result: _, list } => communications(table, a, list, place, posts, looks),
         Action::WaitAny { result: _, list } => communications(table, a, list, place, posts, looks),
-        Action::Lock { mutex } => contest(LOCKS + mutex, place, posts, looks),
-        Action::Unlock { mutex } => release(UNLOCKS + mutex, place, posts, looks),
         Action::MutexTest { result: _, list } => mutexes(list, place, posts, looks),
         Action::MutexWait { result: _, list } => mutexes(list, place, posts, looks),
         Action::Note { cell: _ } => contest(JOURNAL, place, posts, looks),
@@ -54,8 +93,8 @@ pub fn pass(
 }
 
 // A post to a resource on which posts are dependent on one another, and on looks at it.
-fn contest(r: usize, place: u16, posts: &mut [u16; 40], looks: &[u16; 40]) -> u16
-    requires { ⌜ (r < 40) × Rooms (now posts) (now looks) ⌝ }
+fn contest(r: usize, place: u16, posts: &mut [u16; 96], looks: &[u16; 96]) -> u16
+    requires { ⌜ (r < 96) × Rooms (now posts) (now looks) ⌝ }
     ensures { λ met. ⌜ (met ≡ max (getD (now (posts .entry)) r 0) (getD (now (looks .entry)) r 0))
         × (now (posts .exit) ≡ set (now (posts .entry)) r (max (getD (now (posts .entry)) r 0) place)) ⌝ }
 {
@@ -65,8 +104,8 @@ fn contest(r: usize, place: u16, posts: &mut [u16; 40], looks: &[u16; 40]) -> u1
 }
 
 // A post to a resource on which posts are independent of one another, and dependent on looks at it.
-fn release(r: usize, place: u16, posts: &mut [u16; 40], looks: &[u16; 40]) -> u16
-    requires { ⌜ (r < 40) × Rooms (now posts) (now looks) ⌝ }
+fn release(r: usize, place: u16, posts: &mut [u16; 96], looks: &[u16; 96]) -> u16
+    requires { ⌜ (r < 96) × Rooms (now posts) (now looks) ⌝ }
     ensures { λ met. ⌜ (met ≡ getD (now (looks .entry)) r 0)
         × (now (posts .exit) ≡ set (now (posts .entry)) r (max (getD (now (posts .entry)) r 0) place)) ⌝ }
 {
@@ -76,8 +115,8 @@ fn release(r: usize, place: u16, posts: &mut [u16; 40], looks: &[u16; 40]) -> u1
 }
 
 // A look at a resource: it is dependent on the posts to it.
-fn look_at(r: usize, place: u16, posts: &[u16; 40], looks: &mut [u16; 40]) -> u16
-    requires { ⌜ (r < 40) × Rooms (now posts) (now looks) ⌝ }
+fn look_at(r: usize, place: u16, posts: &[u16; 96], looks: &mut [u16; 96]) -> u16
+    requires { ⌜ (r < 96) × Rooms (now posts) (now looks) ⌝ }
     ensures { λ met. ⌜ (met ≡ getD (now (posts .entry)) r 0)
         × (now (looks .exit) ≡ set (now (looks .entry)) r (max (getD (now (looks .entry)) r 0) place)) ⌝ }
 {
@@ -92,8 +131,8 @@ fn communications(
     a: usize,
     list: Numbers,
     place: u16,
-    posts: &[u16; 40],
-    looks: &mut [u16; 40],
+    posts: &[u16; 96],
+    looks: &mut [u16; 96],
 ) -> u16
     requires { ⌜ WellFormed (now table) × Each (λ k. Stands (now table) (name a k)) (listedIn list) × Rooms (now posts) (now looks) ⌝ }
     ensures { λ r. ⌜ Looked (allOf (λ k. awaitedBy (postAt (now (table .entry)) a k)) (listedIn list)) place (now (posts .entry)) (now (looks .entry)) (now (looks .exit)) r ⌝ }
@@ -106,7 +145,7 @@ fn communications(
 }
 
 // A look at a list of mutexes.
-fn mutexes(list: Numbers, place: u16, posts: &[u16; 40], looks: &mut [u16; 40]) -> u16
+fn mutexes(list: Numbers, place: u16, posts: &[u16; 96], looks: &mut [u16; 96]) -> u16
     requires { ⌜ Each (λ m. m < 8) (listedIn list) × Rooms (now posts) (now looks) ⌝ }
     ensures { λ r. ⌜ Looked (allOf (λ m. resource unlockGroup m ∷ []) (listedIn list)) place (now (posts .entry)) (now (looks .entry)) (now (looks .exit)) r ⌝ }
 {
@@ -125,8 +164,8 @@ fn communication(
     n: usize,
     k: usize,
     place: u16,
-    posts: &[u16; 40],
-    looks: &mut [u16; 40],
+    posts: &[u16; 96],
+    looks: &mut [u16; 96],
 ) -> u16
     requires { ⌜ WellFormed (now table) × (n ≤ count → Stands (now table) (name a k)) × Rooms (now posts) (now looks) ⌝ }
     ensures { λ r. ⌜ Looked (upTo count n (awaitedBy (postAt (now (table .entry)) a k))) place (now (posts .entry)) (now (looks .entry)) (now (looks .exit)) r ⌝ }
@@ -144,8 +183,8 @@ fn mutex(
     n: usize,
     m: usize,
     place: u16,
-    posts: &[u16; 40],
-    looks: &mut [u16; 40],
+    posts: &[u16; 96],
+    looks: &mut [u16; 96],
 ) -> u16
     requires { ⌜ (n ≤ count → m < 8) × Rooms (now posts) (now looks) ⌝ }
     ensures { λ r. ⌜ Looked (upTo count n (resource unlockGroup m ∷ [])) place (now (posts .entry)) (now (looks .entry)) (now (looks .exit)) r ⌝ }
@@ -157,7 +196,7 @@ fn mutex(
 }
 
 // A look at an action: a Send awaits a Receive on its mailbox, and a Receive a Send.
-fn listed(x: Action, place: u16, posts: &[u16; 40], looks: &mut [u16; 40]) -> u16
+fn listed(x: Action, place: u16, posts: &[u16; 96], looks: &mut [u16; 96]) -> u16
     requires { ⌜ SmallPost (postsOf x) × Rooms (now posts) (now looks) ⌝ }
     ensures { λ r. ⌜ Looked (awaitedBy (postsOf x)) place (now (posts .entry)) (now (looks .entry)) (now (looks .exit)) r ⌝ }
 {

@@ -2,7 +2,7 @@
 ghost use mathlib.Core.Path.{_≡_};
 ghost use Prim.Native.Nat.{_+_, _<_, _≤_};
 ghost use lib.ListN.{length};
-ghost use Rattle.table.specs.Format.{byteAt, longAt, actorsOf, countOf};
+ghost use Rattle.table.specs.Format.{byteAt, longAt, actorsOf, countOf, offsetOf, placeOf, kindAt, pAt};
 ghost use Rattle.table.specs.Decode.{actionOf, decode as decoded, numbersAt};
 ghost use Rattle.table.specs.Promise.{WellFormed};
 use crate::Action;
@@ -14,8 +14,31 @@ pub fn action(table: &[u8], actor: usize, k: usize) -> Action
     requires { ⌜ WellFormed (now table) × (actor < actorsOf (now table)) × (k < countOf (now table) actor) ⌝ }
     ensures { λ r. ⌜ r ≡ actionOf (now (table .entry)) actor k ⌝ }
 {
-    let first = bytes::word(table, 4 + 4 * actor);
-    decode(table, first + 8 * k)
+    decode(table, place(table, actor, k))
+}
+
+// The number of its kind.
+pub fn kind(table: &[u8], actor: usize, k: usize) -> usize
+    requires { ⌜ WellFormed (now table) × (actor < actorsOf (now table)) × (k < countOf (now table) actor) ⌝ }
+    ensures { λ r. ⌜ r ≡ kindAt (now (table .entry)) (placeOf (offsetOf (now (table .entry)) actor) k) ⌝ }
+{
+    byte(table, place(table, actor, k))
+}
+
+// What its p is: a mailbox, a mutex or a cell, by the kind.
+pub fn target(table: &[u8], actor: usize, k: usize) -> usize
+    requires { ⌜ WellFormed (now table) × (actor < actorsOf (now table)) × (k < countOf (now table) actor) ⌝ }
+    ensures { λ r. ⌜ r ≡ pAt (now (table .entry)) (placeOf (offsetOf (now (table .entry)) actor) k) ⌝ }
+{
+    byte(table, place(table, actor, k) + 1)
+}
+
+// Where its eight bytes stand.
+fn place(table: &[u8], actor: usize, k: usize) -> usize
+    requires { ⌜ WellFormed (now table) × (actor < actorsOf (now table)) × (k < countOf (now table) actor) ⌝ }
+    ensures { λ r. ⌜ (r ≡ placeOf (offsetOf (now (table .entry)) actor) k) × (r + 8 ≤ length (now (table .entry))) ⌝ }
+{
+    bytes::word(table, 4 + 4 * actor) + 8 * k
 }
 
 fn decode(t: &[u8], at: usize) -> Action

@@ -1,46 +1,19 @@
--- `table::within::action` meets its contract: the promise of the table puts the directory's entry and the action's eight bytes within the file.
+-- `table::within::action` meets its contract.
 -- Assumes nothing.
-use mathlib.Core.Path.{_≡_, _∙_, ap}
-use mathlib.Core.List.{List}
-use Prim.Native.Nat.{ℕ, _+_, _*_, _<_, _≤_}
-use native.Mathlib.Omega.{arith}
-use lib.ListN.{length}
-use Rattle.table.specs.Format.{actorsOf, offsetOf, countOf, placeOf}
+use mathlib.Core.Path.{_∙_, ap}
 use Rattle.table.specs.Decode.{decode}
-use Rattle.table.specs.Promise.{WellFormed}
 use borrow.Author.Needs.{needs}
 use Rattle.table.proofs.within.action.Statement.{statement}
 use Rattle.table.proofs.within.action.Tie as tie
 
--- the last of the eight bytes lies within the file
-within : (b : List ℕ) (actor k first : ℕ) → WellFormed b → actor < actorsOf b → k < countOf b actor → first ≡ offsetOf b actor
-    → first + 8 * k + 8 ≤ length b
-within b actor k first table in-actors in-actions e = omega (arith, table .inside actor in-actors, in-actions, e)
-
-mul-word : tie.Need-mul-word
-mul-word c = search needs
-
-add-word : tie.Need-add-word
-add-word c = search needs
-
-word-requires : tie.Need-word-requires
-word-requires c κs = search needs
-
-mul-decode : tie.Need-mul-decode
-mul-decode c = let p = c .before .before .pre in omega (arith, p .0 .actions-most _ (p .1), p .2)
-
-add-decode : tie.Need-add-decode
-add-decode c = let p = c .before .before .pre in omega (arith, p .0 .actions-most _ (p .1), p .2, c .word .ensures .1)
+place-requires : tie.Need-place-requires
+place-requires c κs = search needs
 
 decode-requires : tie.Need-decode-requires
-decode-requires c κs =
-    let p = c .before .before .pre in within _ _ _ _ (p .0) (p .1) (p .2) (c .word .ensures .0)
+decode-requires c κs = search needs
 
 returns : tie.Need-returns
-returns c =
-    let a = c .before .before .before .args in
-    c .decode .ensures ∙ ap (λ (first : ℕ). decode (a .table .now) (placeOf first (a .k))) (c .before .word .ensures .0)
+returns c = c .decode .ensures ∙ ap (decode (c .before .before .before .args .table .now)) (c .before .place .ensures .0)
 
 pub action-spec : {M : Type 1} → statement M
-action-spec =
-    tie.close (tie.spec mul-word add-word word-requires mul-decode add-decode decode-requires returns)
+action-spec = tie.close (tie.spec place-requires decode-requires returns)
