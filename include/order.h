@@ -208,8 +208,8 @@ OrderSame order_same(const uint8_t *table, size_t table_length, const uint8_t *f
                      const uint8_t *second, size_t second_length);
 
 /* The same verdict on two recordings as far as both go: the longer is held to the length of the shorter, and
- * entries after that are not stepped. `verdict` and `pairs` are of these parts. Refusals of them, in this order: 1 to 9; 11 to 13 and 21; 14 to 16
- * and 22.
+ * entries after that are not stepped. `verdict` and `pairs` are of these parts. Refusals of them, in this order:
+ * 1 to 9; 11 to 13 and 21; 14 to 16 and 22.
  */
 OrderSame order_prefix(const uint8_t *table, size_t table_length, const uint8_t *first, size_t first_length,
                        const uint8_t *second, size_t second_length);
