@@ -24,7 +24,7 @@ const UNLOCKS: usize = 64;
 const JOURNAL: usize = 88;
 
 // The latest place of the steps so far that this step must not change places with, 0 where there is none. The step is then one of those so far, with its
-// own place. A post is told from its kind's number: one test for four kinds.
+// own place. A Send, Receive, Lock or Unlock is told by the number of its kind: one test for the four.
 pub fn pass(
     table: &[u8],
     a: usize,
