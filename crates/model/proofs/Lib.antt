@@ -5,8 +5,9 @@
 -- `Demand3`: demand 3, of every table that the reader accepts;
 -- `Refusals`: a refused run or page changes nothing lent;
 -- `Reached`: what holds of every state that an accepted schedule reaches, from any start that has it;
--- `ReportBound`: no report passes the table's bound, nor 4,450 bytes;
+-- `ReportBound`: no report passes the table's bound, nor 4,514 bytes;
 -- `Determined`: two states are equal when their reports are;
+-- `Depths`: a depth is what its actor's own Locks and Unlocks leave, at most 32;
 -- `Journaled`: the journal is the Notes that were run, in their order, each once;
 -- `PageShape`: every line of a page has 101 characters, and no page passes 816 bytes;
 -- `SamePages`: exchanged schedules have the same page;
@@ -33,6 +34,7 @@ pub mod Routes
 pub mod ReportBoundCounts
 pub mod ReportBoundNames
 pub mod ReportBoundQueues
+pub mod QueuedDepths
 pub mod ReportBoundMail
 pub mod ReachedQueued
 pub mod ReachedPaired
@@ -49,6 +51,7 @@ pub mod ReportSplit
 pub mod SameReports
 pub mod SameStates
 pub mod Determined
+pub mod Depths
 pub mod Journaled
 pub mod Decimal
 pub mod Columns
@@ -73,6 +76,7 @@ pub mod OverExamples
 pub mod RecordingExamples
 pub mod DrawExamples
 pub mod JournalExamples
+pub mod DepthExamples
 pub mod Listings
 pub mod Forecourt
 pub mod ComparisonExamples

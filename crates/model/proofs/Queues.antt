@@ -1,82 +1,71 @@
 -- Mutex queues: what a step of one actor leaves of another's ownership, and that posts which do not compete commute.
 -- Assumes nothing.
-use Prim.Native.Nat.{ℕ}
+use Prim.Native.Nat.{ℕ, zero, suc, _-_}
 use mathlib.Core.Path.{_≡_, refl, sym, _∙_, ap}
 use mathlib.Core.Logic.{_⊎_, inl, inr, _≢_}
-use mathlib.Core.Bool.{Bool, true, false, _||_}
-use mathlib.Core.List.{List, [], _∷_, _++_}
+use mathlib.Core.Bool.{true, false}
+use mathlib.Core.List.{List, [], _∷_}
 use lib.Dec.{eqb}
 use borrow.Author.Tests.{eqb-true, eqb-false, ne-eqb}
-use Rattle.trace.specs.Order.{has}
 use Rattle.trace.proofs.Bools.{which}
-use Rattle.model.specs.Site.{upd}
+use Rattle.model.specs.Site.{Queued, upd}
 use Rattle.model.specs.Views.{Post, silent, mails, joins, leaves, notes}
-use Rattle.model.specs.Mutex.{owns, join, leave, queueing}
+use Rattle.model.specs.Mutex.{owns, join, standing, leave, queueing}
 use Rattle.model.specs.Pair.{competes}
 use Rattle.model.proofs.Upd.{upd-same, upd-other, upd-comm, upd-upd}
 use Rattle.model.proofs.Ports.{number-test}
 
--- a repeated Lock changes nothing
-pub rejoin : (q : List ℕ) (a : ℕ) → has q a ≡ true → join q a ≡ q
-rejoin q a h = rw h
+module _ (a b : ℕ) (ne : a ≢ b) where
+  -- an actor of any depth in front is nothing to another
+  standing-leave : (d : ℕ) (q : List Queued) → leave (standing a d q) b ≡ standing a d (leave q b)
+  standing-leave zero q = refl
+  standing-leave (suc d) q = rw (ne-eqb b a (λ e. ne (sym e)))
+
+  pub standing-join : (d : ℕ) (q : List Queued) → join (standing a d q) b ≡ standing a d (join q b)
+  standing-join zero q = refl
+  standing-join (suc d) q = rw (ne-eqb b a (λ e. ne (sym e)))
 
 module _ (a b : ℕ) (ne : a ≢ b) where
   -- Unlock and Unlock commute
-  pub leave-leave : (q : List ℕ) → leave (leave q a) b ≡ leave (leave q b) a
+  pub leave-leave : (q : List Queued) → leave (leave q a) b ≡ leave (leave q b) a
   leave-leave [] = refl
-  leave-leave (c ∷ q) = go (which (eqb a c)) (which (eqb b c)) (leave-leave q)
+  leave-leave (x ∷ q) = go (which (eqb a (x .actor))) (which (eqb b (x .actor))) (leave-leave q)
     where
-      go : (eqb a c ≡ true) ⊎ (eqb a c ≡ false) → (eqb b c ≡ true) ⊎ (eqb b c ≡ false) → leave (leave q a) b ≡ leave (leave q b) a
-          → leave (leave (c ∷ q) a) b ≡ leave (leave (c ∷ q) b) a
-      go (inl e) (inl f) r = absurd (ne (eqb-true a c e ∙ sym (eqb-true b c f)))
-      go (inl e) (inr f) r = rw (e, f, e) r
-      go (inr e) (inl f) r = rw (e, f) r
-      go (inr e) (inr f) r = rw (e, f, e) (ap {B = List ℕ} (λ l. c ∷ l) r)
+      go : (eqb a (x .actor) ≡ true) ⊎ (eqb a (x .actor) ≡ false) → (eqb b (x .actor) ≡ true) ⊎ (eqb b (x .actor) ≡ false)
+          → leave (leave q a) b ≡ leave (leave q b) a → leave (leave (x ∷ q) a) b ≡ leave (leave (x ∷ q) b) a
+      go (inl e) (inl f) r = absurd (ne (eqb-true a (x .actor) e ∙ sym (eqb-true b (x .actor) f)))
+      go (inl e) (inr f) r = rw (e, f, e) (standing-leave a b ne (x .depth - 1) q)
+      go (inr e) (inl f) r = rw (e, f) (sym (standing-leave b a (λ k. ne (sym k)) (x .depth - 1) q))
+      go (inr e) (inr f) r = rw (e, f, e) (ap {B = List Queued} (λ l. x ∷ l) r)
 
-  owns-append : (q : List ℕ) → owns (q ++ (b ∷ [])) a ≡ owns q a
-  owns-append [] = ne-eqb a b ne
-  owns-append (c ∷ q) = refl
-
-  -- who else joins does not change whether a owns
-  pub owns-join : (q : List ℕ) → owns (join q b) a ≡ owns q a
-  owns-join q = go (which (has q b))
+  -- who else joins, or locks again, does not change whether a owns
+  pub owns-join : (q : List Queued) → owns (join q b) a ≡ owns q a
+  owns-join [] = ne-eqb a b ne
+  owns-join (x ∷ q) = go (which (eqb b (x .actor)))
     where
-      go : (has q b ≡ true) ⊎ (has q b ≡ false) → owns (join q b) a ≡ owns q a
-      go (inl h) = rw h
-      go (inr h) = rw h (owns-append q)
+      go : (eqb b (x .actor) ≡ true) ⊎ (eqb b (x .actor) ≡ false) → owns (join (x ∷ q) b) a ≡ owns (x ∷ q) a
+      go (inl e) = rw e (ap (eqb a) (eqb-true b (x .actor) e))
+      go (inr e) = rw e
 
   -- if a owns, it still does when another leaves
-  pub owns-leave : (q : List ℕ) → owns q a ≡ true → owns (leave q b) a ≡ true
+  pub owns-leave : (q : List Queued) → owns q a ≡ true → owns (leave q b) a ≡ true
   owns-leave [] h = h
-  owns-leave (c ∷ q) h = rw (ne-eqb b c (λ e. ne (eqb-true a c h ∙ sym e))) h
-
-  has-leave : (q : List ℕ) → has (leave q b) a ≡ has q a
-  has-leave [] = refl
-  has-leave (c ∷ q) = go (which (eqb b c)) (has-leave q)
-    where
-      go : (eqb b c ≡ true) ⊎ (eqb b c ≡ false) → has (leave q b) a ≡ has q a → has (leave (c ∷ q) b) a ≡ has (c ∷ q) a
-      go (inl e) r = rw (e, ne-eqb a c (λ k. ne (k ∙ sym (eqb-true b c e)))) r
-      go (inr e) r = rw e (ap (λ (t : Bool). eqb a c || t) r)
-
-  leave-append : (q : List ℕ) → leave (q ++ (a ∷ [])) b ≡ leave q b ++ (a ∷ [])
-  leave-append [] = rw (ne-eqb b a (λ e. ne (sym e)))
-  leave-append (c ∷ q) = go (which (eqb b c)) (leave-append q)
-    where
-      go : (eqb b c ≡ true) ⊎ (eqb b c ≡ false) → leave (q ++ (a ∷ [])) b ≡ leave q b ++ (a ∷ [])
-          → leave ((c ∷ q) ++ (a ∷ [])) b ≡ leave (c ∷ q) b ++ (a ∷ [])
-      go (inl e) r = rw e r
-      go (inr e) r = rw e (ap {B = List ℕ} (λ l. c ∷ l) r)
+  owns-leave (x ∷ q) h = rw (ne-eqb b (x .actor) (λ e. ne (eqb-true a (x .actor) h ∙ sym e))) h
 
   -- Lock and Unlock commute
-  pub join-leave : (q : List ℕ) → leave (join q a) b ≡ join (leave q b) a
-  join-leave q = go (which (has q a))
+  pub join-leave : (q : List Queued) → leave (join q a) b ≡ join (leave q b) a
+  join-leave [] = rw (ne-eqb b a (λ e. ne (sym e)))
+  join-leave (x ∷ q) = go (which (eqb a (x .actor))) (which (eqb b (x .actor))) (join-leave q)
     where
-      go : (has q a ≡ true) ⊎ (has q a ≡ false) → leave (join q a) b ≡ join (leave q b) a
-      go (inl h) = rw (h, has-leave q, h)
-      go (inr h) = rw (h, has-leave q, h) (leave-append q)
+      go : (eqb a (x .actor) ≡ true) ⊎ (eqb a (x .actor) ≡ false) → (eqb b (x .actor) ≡ true) ⊎ (eqb b (x .actor) ≡ false)
+          → leave (join q a) b ≡ join (leave q b) a → leave (join (x ∷ q) a) b ≡ join (leave (x ∷ q) b) a
+      go (inl e) (inl f) r = absurd (ne (eqb-true a (x .actor) e ∙ sym (eqb-true b (x .actor) f)))
+      go (inl e) (inr f) r = rw (e, f, e, ne-eqb b a (λ k. ne (sym k)))
+      go (inr e) (inl f) r = rw (e, f) (sym (standing-join b a (λ k. ne (sym k)) (x .depth - 1) q))
+      go (inr e) (inr f) r = rw (e, f, e) (ap {B = List Queued} (λ l. x ∷ l) r)
 
 -- two changes of queues, of one each, commute if they do so on one queue
-two-queues : (f : ℕ → List ℕ) (m n : ℕ) (g h : List ℕ → List ℕ) → ((q : List ℕ) → h (g q) ≡ g (h q))
+two-queues : (f : ℕ → List Queued) (m n : ℕ) (g h : List Queued → List Queued) → ((q : List Queued) → h (g q) ≡ g (h q))
     → upd eqb (upd eqb f m (g (f m))) n (h (upd eqb f m (g (f m)) n)) ≡ upd eqb (upd eqb f n (h (f n))) m (g (upd eqb f n (h (f n)) m))
 two-queues f m n g h c = go (which (eqb n m))
   where
@@ -93,12 +82,12 @@ two-queues f m n g h c = go (which (eqb n m))
         (upd-comm number-test f m n (g (f m)) (h (f n)) (λ k. ne (sym k)))
 
 -- joins of different mutexes
-two-joins : (a b m n : ℕ) (f : ℕ → List ℕ) → m ≢ n → queueing (joins n) b (queueing (joins m) a f) ≡ queueing (joins m) a (queueing (joins n) b f)
+two-joins : (a b m n : ℕ) (f : ℕ → List Queued) → m ≢ n → queueing (joins n) b (queueing (joins m) a f) ≡ queueing (joins m) a (queueing (joins n) b f)
 two-joins a b m n f ne =
     rw (upd-other number-test f n m (join (f m) a) (λ k. ne (sym k)), upd-other number-test f m n (join (f n) b) ne)
     (upd-comm number-test f m n (join (f m) a) (join (f n) b) ne)
 
-pub queueing-commutes : (x y : Post) (a b : ℕ) (f : ℕ → List ℕ) → a ≢ b → competes x y ≡ false
+pub queueing-commutes : (x y : Post) (a b : ℕ) (f : ℕ → List Queued) → a ≢ b → competes x y ≡ false
     → queueing y b (queueing x a f) ≡ queueing x a (queueing y b f)
 queueing-commutes silent y a b f ne h = refl
 queueing-commutes (mails p) y a b f ne h = refl

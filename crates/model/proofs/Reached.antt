@@ -8,23 +8,26 @@ use mathlib.Core.Logic.{_⊎_, inl, inr, _≢_, _↔_}
 use mathlib.Core.Bool.{true, false, false≢true}
 use mathlib.Core.List.{List, [], _∷_}
 use lib.Dec.{eqb}
-use borrow.Author.Tests.{eqb-true, eqb-false, ltb-true}
+use borrow.Author.Tests.{eqb-true, eqb-false, eq-eqb, ltb-true}
 use Rattle.table.specs.Format.{actorsOf, countOf}
 use Rattle.table.specs.Promise.{isPost}
 use Rattle.trace.specs.Machine.{Name}
 use Rattle.trace.specs.Schedule.{accepted, final}
-use Rattle.trace.specs.Order.{eqName, mem, has}
+use Rattle.trace.specs.Order.{eqName, mem}
 use Rattle.trace.proofs.Bools.{which, contrary, is-false}
 use Rattle.trace.proofs.Names.{eqName-refl, eqName-true}
 use Rattle.trace.proofs.Run.{first-ready, rest-accepted}
-use Rattle.model.specs.Site.{Actor, Comm, unposted, pending, done, Site, initial}
+use Rattle.model.specs.Site.{Actor, Comm, unposted, pending, done, Queued, Site, initial}
 use Rattle.model.specs.Views.{joins, notes, posts}
+use Rattle.model.specs.Ready.{howMany}
 use Rattle.model.specs.Step.{actionAt, nextName, nextAction, ready, step}
 use Rattle.model.specs.Schedule.{machine, endState}
-use Rattle.model.specs.Reached.{isPosted, MailRight, Locked, notedIn, Reached}
+use Rattle.model.specs.Pair.{isJoin, postAt}
+use Rattle.model.specs.Reached.{isPosted, MailRight, DepthsWithin, locksBelow, notedIn, Reached}
 use Rattle.model.proofs.Checks.{ready-parts}
 use Rattle.model.proofs.Invariant.{Inv, own-position, others-record, position-rises}
-use Rattle.model.proofs.ReportBoundQueues.{once-queueing, queueing-members}
+use Rattle.model.proofs.ReportBoundQueues.{queueing-keeps, once-queueing}
+use Rattle.model.proofs.QueuedDepths.{depths-more, depths-join, depths-leave, count-more, count-next}
 use Rattle.model.proofs.ReachedQueued.{pending-posted}
 use Rattle.model.proofs.ReachedMail.{receive-sends-zero, mailing-right, own-posted, others-posted}
 use Rattle.model.proofs.ReachedNoted.{noting-members, noting-keeps, noting-adds, noting-once}
@@ -47,7 +50,7 @@ reached-initial table =
             one-sided = λ p. inl refl;
           };
       queued-once = λ m. tt;
-      queued-locked = λ m a h. absurd (false≢true h);
+      queued-depths = λ m. tt;
       noted-below = λ x. (λ h. absurd (false≢true h), λ h. absurd (omega (arith, h .1)));
       noted-once = tt;
     }
@@ -129,13 +132,27 @@ module _ (table : List ℕ) (s : Site) (r : Reached table s) where
         mailing-right (λ x. posts (actionAt table x)) me _ (s .mail) next-unposted (r .mail) (posts (nextAction table s a)) refl
         (receive-sends-zero (nextAction table s a) (s .actor a .cells))
 
-    step-locked : (m b : ℕ) → has (step table s a .queue m) b ≡ true → Locked table (step table s a) m b
-    unfolding step
-    step-locked m b h = go (queueing-members (posts (nextAction table s a)) a (s .queue) m b h)
+    -- no actor's Locks below its position grow fewer, and a Lock is one more
+    locks-keep : (m b : ℕ) → locksBelow table s m b ≤ locksBelow table (step table s a) m b
+    locks-keep m b = go (which (eqb b a))
       where
-        go : (has (s .queue m) b ≡ true) ⊎ ((b ≡ a) × (posts (nextAction table s a) ≡ joins m)) → Locked table (step table s a) m b
-        go (inl old) = let k = r .queued-locked m b old in (k .0, omega (arith, position-rises table s b a, k .1), k .2)
-        go (inr new) = rw (new .0) (s .actor a .position, omega (arith, own-position table s a), new .1)
+        go : (eqb b a ≡ true) ⊎ (eqb b a ≡ false) → locksBelow table s m b ≤ locksBelow table (step table s a) m b
+        go (inl e) = rw (eqb-true b a e, own-position table s a) (count-more (λ k. isJoin (postAt table a k) m) (s .actor a .position) 0)
+        go (inr e) = rw (others-record table s b a (eqb-false b a e)) (omega arith)
+
+    locks-more : (m : ℕ) → posts (nextAction table s a) ≡ joins m → suc (locksBelow table s m a) ≤ locksBelow table (step table s a) m a
+    locks-more m e =
+        rw (own-position table s a) (count-next (λ k. isJoin (postAt table a k) m) (s .actor a .position) (rw e (eq-eqb m m refl)))
+
+    step-depths : (m : ℕ) → DepthsWithin (locksBelow table (step table s a) m) (step table s a .queue m)
+    unfolding step
+    step-depths =
+        queueing-keeps (λ m. DepthsWithin (locksBelow table (step table s a) m)) (posts (nextAction table s a)) a (s .queue)
+        (λ m. depths-more (locksBelow table s m) (locksBelow table (step table s a) m) (locks-keep m) (s .queue m) (r .queued-depths m))
+        (λ m e. depths-join (locksBelow table s m) (locksBelow table (step table s a) m) (locks-keep m) a (locks-more m e) (s .queue m) (r .queued-depths m))
+        (λ m e.
+        depths-leave (locksBelow table (step table s a) m) a (s .queue m)
+        (depths-more (locksBelow table s m) (locksBelow table (step table s a) m) (locks-keep m) (s .queue m) (r .queued-depths m)))
 
     next-unnoted : mem me (notedIn (s .journal)) ≡ false
     next-unnoted = is-false _ (λ h. let low = r .noted-below me .0 h .1 in omega arith)
@@ -187,7 +204,7 @@ module _ (table : List ℕ) (s : Site) (r : Reached table s) where
             posted-below = step-posted;
             mail = step-mail;
             queued-once = once-queueing (posts (nextAction table s a)) a (s .queue) (r .queued-once);
-            queued-locked = step-locked;
+            queued-depths = step-depths;
             noted-below = step-noted;
             noted-once = noting-once (posts (nextAction table s a)) me _ (s .journal) (r .noted-once) next-unnoted;
           }

@@ -1,4 +1,4 @@
--- No report passes the bound of its table, section by section; and the bound of an accepted table does not pass 4,450.
+-- No report passes the bound of its table, section by section; and the bound of an accepted table does not pass 4,514.
 -- Assumes nothing.
 use Prim.Native.Nat.{ℕ, _+_, _*_, _≤_}
 use native.Mathlib.Omega.{arith}
@@ -11,10 +11,10 @@ use Rattle.table.specs.Promise.{WellFormed, isPost}
 use Rattle.table.specs.Decode.{decodeAs, actionOf}
 use Rattle.trace.specs.Machine.{Name}
 use Rattle.trace.specs.Schedule.{accepted}
-use Rattle.model.specs.Site.{Actor, Port, Comm, unposted, pending, done, Entry, Site, name, initial}
+use Rattle.model.specs.Site.{Actor, Port, Comm, unposted, pending, done, Entry, Queued, Site, name, initial}
 use Rattle.model.specs.Views.{posts}
 use Rattle.model.specs.Pair.{isNote}
-use Rattle.model.specs.Report.{actorBytes, commBytes, nameBytes, boxBytes, mutexBytes, parts, boxQueue, actorsPart, actionsPart, boxesPart, mutexesPart, entryBytes, journalBytes, report}
+use Rattle.model.specs.Report.{actorBytes, commBytes, nameBytes, boxBytes, queuedBytes, mutexBytes, parts, boxQueue, actorsPart, actionsPart, boxesPart, mutexesPart, entryBytes, journalBytes, report}
 use Rattle.model.specs.Bound.{actionCount, postsOf, postCount, hasLock, lockersOf, lockerCount, notesOf, noteCount, reportBound, ReportsFit}
 use Rattle.model.specs.Schedule.{machine}
 use Rattle.model.specs.Reached.{Reached}
@@ -40,6 +40,13 @@ names-length (x ∷ l) = omega (arith, names-length l)
 
 pub box-bytes : (l : List Name) → length (boxBytes l) ≡ 2 + 2 * length l
 box-bytes l = omega (arith, names-length l)
+
+queued-length : (l : List Queued) → length (queuedBytes l) ≡ 2 * length l
+queued-length [] = refl
+queued-length (x ∷ l) = omega (arith, queued-length l)
+
+pub mutex-bytes : (l : List Queued) → length (mutexBytes l) ≡ 1 + 2 * length l
+mutex-bytes l = omega (arith, queued-length l)
 
 entries-length : (l : List Entry) → length (entryBytes l) ≡ 6 * length l
 entries-length [] = refl
@@ -93,15 +100,16 @@ module _ (table : List ℕ) (s : Site) where
           boxes-length table s r (mailboxesOf table) 0,
         )
 
-    mutexes-section : length (mutexesPart table s) ≤ mutexesOf table + lockerCount table
+    mutexes-section : length (mutexesPart table s) ≤ mutexesOf table + 2 * lockerCount table
     mutexes-section =
         omega (
           arith,
           length-parts (λ m. mutexBytes (s .queue m)) (mutexesOf table) 0,
-          total-le (λ m. length (mutexBytes (s .queue m))) (λ m. 1 + lockersOf table m) (mutexesOf table) 0
-              (λ m l h. omega (arith, queue-length table s r m)),
-          total-add (λ m. 1) (lockersOf table) (mutexesOf table) 0,
+          total-le (λ m. length (mutexBytes (s .queue m))) (λ m. 1 + 2 * lockersOf table m) (mutexesOf table) 0
+              (λ m l h. omega (arith, mutex-bytes (s .queue m), queue-length table s r m)),
+          total-add (λ m. 1) (λ m. 2 * lockersOf table m) (mutexesOf table) 0,
           total-most (λ m. 1) 1 (mutexesOf table) 0 (λ m l h. omega arith),
+          total-times 2 (lockersOf table) (mutexesOf table) 0,
         )
 
     -- the report of a reached state
@@ -154,7 +162,7 @@ module _ (table : List ℕ) (ok : WellFormed table) where
         actions-most,
       )
 
-  pub bound-most : reportBound table ≤ 4450
+  pub bound-most : reportBound table ≤ 4514
   unfolding reportBound
   bound-most = omega (arith, actions-most, posts-most, lockers-most, notes-most, ok .actors-most, ok .mailboxes-most, ok .mutexes-most)
 

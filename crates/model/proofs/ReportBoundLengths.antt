@@ -25,10 +25,11 @@ use Rattle.model.specs.Pair.{isJoin, isNote}
 use Rattle.model.specs.Step.{actionAt}
 use Rattle.model.specs.Report.{boxQueue}
 use Rattle.model.specs.Bound.{total, postCount, hasLock, lockersOf, noteCount}
-use Rattle.model.specs.Reached.{Locked, notedIn, Reached}
+use Rattle.model.specs.Reached.{actorsIn, notedIn, Reached}
 use Rattle.model.proofs.ReportBoundCounts.{total-le, total-most, howMany-most, some-of, one-place}
 use Rattle.model.proofs.ReportBoundNames.{allNames, all-names, distinct-count, count-all, counts-apart}
 use Rattle.model.proofs.ReportBoundQueues.{once-count}
+use Rattle.model.proofs.QueuedDepths.{Locked, queued-locked}
 use Rattle.model.proofs.Reached.{pending-inv}
 use Rattle.model.proofs.ByKind.{Posting, quiet, sends-to, receives-from, locks, unlocks, writes-down, posting}
 
@@ -140,11 +141,16 @@ module _ (table : List ℕ) (s : Site) (r : Reached table s) where
   -- ---- mutexes
 
   pub queue-length : (m : ℕ) → length (s .queue m) ≤ lockersOf table m
-  queue-length m = once-count (hasLock table m) (actorsOf table) 0 (s .queue m) (r .queued-once m) locker
+  queue-length m =
+      omega (
+        arith,
+        length-map (s .queue m) (λ x. x .actor),
+        once-count (hasLock table m) (actorsOf table) 0 (actorsIn (s .queue m)) (r .queued-once m) locker,
+      )
     where
-      locker : (a : ℕ) → has (s .queue m) a ≡ true → (0 ≤ a) × (a < 0 + actorsOf table) × (hasLock table m a ≡ true)
+      locker : (a : ℕ) → has (actorsIn (s .queue m)) a ≡ true → (0 ≤ a) × (a < 0 + actorsOf table) × (hasLock table m a ≡ true)
       locker a h =
-          let k : Locked table s m a = r .queued-locked m a h in
+          let k : Locked table s m a = queued-locked table s m a (s .queue m) (r .queued-depths m) h in
           let low : k .0 < s .actor a .position = k .1 in (
             omega arith,
             omega (arith, stepped-actor a (omega arith)),

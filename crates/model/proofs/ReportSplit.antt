@@ -13,9 +13,9 @@ use lib.Seq.{ext-getD}
 use borrow.Author.Tests.{eqb-true, eqb-false}
 use Rattle.trace.specs.Machine.{Name}
 use Rattle.trace.proofs.Bools.{which}
-use Rattle.model.specs.Site.{Actor, Comm, unposted, pending, done, Entry}
+use Rattle.model.specs.Site.{Actor, Comm, unposted, pending, done, Entry, Queued}
 use Rattle.model.specs.Mail.{carried}
-use Rattle.model.specs.Report.{word, long, parts, actorBytes, commBytes, nameBytes, boxBytes, mutexBytes, entryBytes, journalBytes}
+use Rattle.model.specs.Report.{word, long, parts, actorBytes, commBytes, nameBytes, boxBytes, queuedBytes, mutexBytes, entryBytes, journalBytes}
 use Rattle.model.proofs.ReportBoundValues.{Small, SmallCells, SmallJournal}
 
 -- ---- pieces in a row
@@ -109,19 +109,20 @@ box-split l k a b u v e =
     let count = word-split (length l) (length k) a b (nameBytes l ++ u) (nameBytes k ++ v) e in
     names-split l k (count .0) u v (count .1)
 
-pub actors-split : (l k : List ℕ) → length l ≡ length k → (u v : List ℕ) → l ++ u ≡ k ++ v → (l ≡ k) × (u ≡ v)
-actors-split [] [] n u v e = (refl, e)
-actors-split [] (y ∷ k) n u v e = absurd (omega arith)
-actors-split (x ∷ l) [] n u v e = absurd (omega arith)
-actors-split (x ∷ l) (y ∷ k) n u v e =
-    let head : x ≡ y = cc in
-    let rest : (l ≡ k) × (u ≡ v) = actors-split l k (omega arith) u v (cc) in
-    (λ i. head i ∷ rest .0 i, rest .1)
+queued-split : (l k : List Queued) → length l ≡ length k → (u v : List ℕ) → queuedBytes l ++ u ≡ queuedBytes k ++ v → (l ≡ k) × (u ≡ v)
+queued-split [] [] n u v e = (refl, e)
+queued-split [] (y ∷ k) n u v e = absurd (omega arith)
+queued-split (x ∷ l) [] n u v e = absurd (omega arith)
+queued-split (x ∷ l) (y ∷ k) n u v e =
+    let actor : x .actor ≡ y .actor = cc in
+    let depth : x .depth ≡ y .depth = cc in
+    let rest : (l ≡ k) × (u ≡ v) = queued-split l k (omega arith) u v (cc) in
+    (λ i. record { actor = actor i; depth = depth i } ∷ rest .0 i, rest .1)
 
-pub mutex-split : (l k : List ℕ) → (u v : List ℕ) → mutexBytes l ++ u ≡ mutexBytes k ++ v → (l ≡ k) × (u ≡ v)
+pub mutex-split : (l k : List Queued) → (u v : List ℕ) → mutexBytes l ++ u ≡ mutexBytes k ++ v → (l ≡ k) × (u ≡ v)
 mutex-split l k u v e =
     let count : length l ≡ length k = cc in
-    actors-split l k count u v (cc)
+    queued-split l k count u v (cc)
 
 -- ---- the journal, whose values are below 2^32
 

@@ -14,14 +14,15 @@ use Rattle.table.specs.Promise.{InRange, WellFormed}
 use Rattle.trace.specs.Machine.{Name}
 use Rattle.trace.specs.Order.{mem, has}
 use Rattle.trace.proofs.Bools.{which}
-use Rattle.model.specs.Site.{Port, Site, name}
+use Rattle.model.specs.Site.{Port, Queued, Site, name}
 use Rattle.model.specs.Views.{Post, silent, mails, joins, leaves, notes, posts}
 use Rattle.model.specs.Step.{actionAt}
-use Rattle.model.specs.Reached.{Locked, Reached}
+use Rattle.model.specs.Reached.{actorsIn, Reached}
 use Rattle.model.specs.Determined.{SameSite}
 use Rattle.model.proofs.Reached.{later-unposted}
 use Rattle.model.proofs.ByKind.{Posting, quiet, sends-to, receives-from, locks, unlocks, writes-down, posting}
 use Rattle.model.proofs.ReportBoundQueues.{has-head}
+use Rattle.model.proofs.QueuedDepths.{Locked, queued-locked}
 use Rattle.model.proofs.ReportBoundLengths.{stepped-actor, pending-named}
 use Rattle.model.proofs.SameReports.{none-held}
 
@@ -48,9 +49,9 @@ post-in-range table actor k x h = go (posting x)
     go (unlocks m e) = rw e (in-range e)
     go (writes-down c e) = rw e tt
 
-none-named : (q : List ℕ) → ((a : ℕ) → has q a ≡ true → ⊥) → q ≡ []
+none-named : (q : List Queued) → ((a : ℕ) → has (actorsIn q) a ≡ true → ⊥) → q ≡ []
 none-named [] h = refl
-none-named (a ∷ q) h = absurd (h a (has-head a q))
+none-named (x ∷ q) h = absurd (h (x .actor) (has-head (x .actor) (actorsIn q)))
 
 -- ---- past the table
 
@@ -70,9 +71,9 @@ module _ (table : List ℕ) (ok : WellFormed table) (s : Site) (r : Reached tabl
   absent-mutex : (m : ℕ) → mutexesOf table ≤ m → s .queue m ≡ []
   absent-mutex m h = none-named (s .queue m) nobody
     where
-      nobody : (a : ℕ) → has (s .queue m) a ≡ true → ⊥
+      nobody : (a : ℕ) → has (actorsIn (s .queue m)) a ≡ true → ⊥
       nobody a q =
-          let k : Locked table s m a = r .queued-locked m a q in
+          let k : Locked table s m a = queued-locked table s m a (s .queue m) (r .queued-depths m) q in
           let low : k .0 < s .actor a .position = k .1 in
           let here : m < mutexesOf table =
           rw (k .2) at (posts-in-range (name a (k .0)) (stepped-actor table s r a (omega arith)) (omega (arith, r .position-most a))) in

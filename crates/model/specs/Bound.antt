@@ -1,5 +1,5 @@
 -- How long a report can be, by the table's own counts: 33 bytes per actor, 8 per action, 2 per mailbox, 2 per Send or Receive, 1 per mutex and
--- 1 for each actor with a Lock of it, 2 for the journal and 6 per Note.
+-- 2 for each actor with a Lock of it, 2 for the journal and 6 per Note.
 -- Assumes nothing: these are definitions.
 use Prim.Native.Nat.{ℕ, zero, suc, _+_, _*_, _≤_}
 use mathlib.Core.Path.{_≡_}
@@ -58,9 +58,9 @@ module _ (table : List ℕ) where
 
   unfoldable pub reportBound : ℕ
   reportBound =
-      33 * actorsOf table + 8 * actionCount + 2 * mailboxesOf table + 2 * postCount + mutexesOf table + lockerCount + 2 + 6 * noteCount
+      33 * actorsOf table + 8 * actionCount + 2 * mailboxesOf table + 2 * postCount + mutexesOf table + 2 * lockerCount + 2 + 6 * noteCount
 
--- no report passes the table's bound, and the bound of an accepted table does not pass 4,450
+-- no report passes the table's bound, and the bound of an accepted table does not pass 4,514
 pub record ReportsFit (table : List ℕ) : Type 0 where
   pub fits : (schedule : List ℕ) → accepted (machine table) initial schedule ≡ true
       → length (report table (endState table schedule)) ≤ reportBound table

@@ -43,7 +43,7 @@ fills checks written buffer = record { result = answer checks (length written); 
 
 -- refusal 10: a report buffer must have this many bytes, which no report passes
 abbrev pub reportRoom : ℕ
-reportRoom = 4450
+reportRoom = 4514
 
 -- 10, then 1 to 9, then 11 to 13 and 21, entry by entry
 abbrev pub runChecks : List ℕ → List ℕ → List ℕ → Outcome

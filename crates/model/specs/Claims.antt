@@ -12,7 +12,7 @@ use Rattle.table.specs.Read.{readOf}
 use Rattle.trace.specs.Machine.{Machine, Name}
 use Rattle.trace.specs.Schedule.{accepted, names}
 use Rattle.trace.specs.Chain.{swapAt, independentAt}
-use Rattle.model.specs.Site.{Entry, initial}
+use Rattle.model.specs.Site.{Entry, Queued, initial}
 use Rattle.model.specs.Ready.{ReadyAnswer}
 use Rattle.model.specs.Report.{report}
 use Rattle.model.specs.Schedule.{machine, endState}
@@ -64,11 +64,12 @@ lines (l ∷ rest) = line (ascii l) ++ lines rest
 pub data Question : Type 0 where
   -- what reading the table gives
   read : (table : List ℕ) → Question
-  -- the result of a run with a report buffer of so many zeros; the report that a run leaves in 4,450 zeros; what a cell of an actor holds after
-  -- the schedule; the journal after it
+  -- the result of a run with a report buffer of so many zeros; the report that a run leaves in 4,514 zeros; what a cell of an actor holds after
+  -- the schedule; the queue of a mutex after it; the journal after it
   runIn : (room : ℕ) (table schedule : List ℕ) → Question
   bytes : (table schedule : List ℕ) → Question
   cell : (table schedule : List ℕ) (actor number : ℕ) → Question
+  queue : (table schedule : List ℕ) (mutex : ℕ) → Question
   journal : (table schedule : List ℕ) → Question
   -- the result of the page call with a buffer of so many zeros; the page that it leaves in 816 zeros
   pageIn : (room : ℕ) (table schedule : List ℕ) → Question
@@ -96,7 +97,7 @@ pub data Question : Type 0 where
   routeIn : (room : ℕ) (table first second : List ℕ) → Question
   ends : (table first second : List ℕ) → Question
 
--- the result of a run with a report buffer of 4,450 zeros
+-- the result of a run with a report buffer of 4,514 zeros
 abbrev pub run : (table schedule : List ℕ) → Question
 run table schedule = runIn reportRoom table schedule
 
@@ -105,6 +106,7 @@ pub data Answer : Type 0 where
   ran : Result ℕ → Answer
   written : List ℕ → Answer
   holds : (value : ℕ) → Answer
+  queued : List Queued → Answer
   entries : List Entry → Answer
   readied : Result ReadyAnswer → Answer
   paired : Result PairVerdict → Answer
@@ -121,6 +123,7 @@ ask (read table) = outcome (readOf table)
 ask (runIn room table schedule) = ran (runOf table schedule (replicate room 0) .result)
 ask (bytes table schedule) = written (writtenBy (runOf table schedule (replicate reportRoom 0)))
 ask (cell table schedule actor number) = holds (getD (endState table schedule .actor actor .cells) number 0)
+ask (queue table schedule mutex) = queued (endState table schedule .queue mutex)
 ask (journal table schedule) = entries (endState table schedule .journal)
 ask (pageIn room table schedule) = ran (pageOf table schedule (replicate room 0) .result)
 ask (page table schedule) = written (writtenBy (pageOf table schedule (replicate pageRoom 0)))

@@ -20,8 +20,8 @@ badTable = set tableA 12 255
 abbrev pub refusalOrder : List Claim
 refusalOrder =
     -- run: 10 before the table and the schedule, and by the buffer's length, although this report has 102 bytes; then the table before the schedule
-    runIn 4449 badTable (2 ∷ []) ⇒ ran (refuses 10 0)
-    ∷ runIn 4449 tableA (0 ∷ 1 ∷ 0 ∷ 1 ∷ []) ⇒ ran (refuses 10 0)
+    runIn 4513 badTable (2 ∷ []) ⇒ ran (refuses 10 0)
+    ∷ runIn 4513 tableA (0 ∷ 1 ∷ 0 ∷ 1 ∷ []) ⇒ ran (refuses 10 0)
     ∷ run badTable (2 ∷ []) ⇒ ran (refuses 6 12)
     -- ready, pair, same: the table before the schedule, the names, the two schedules
     ∷ ready badTable (2 ∷ []) ⇒ readied (refuses 6 12)

@@ -100,7 +100,7 @@ needed =
     ∷ pair (two (lock ∷ unlock ∷ []) (lock ∷ mutexTest ∷ [])) (name 0 1) (name 1 1) ⇒ paired (gives dependent)
     ∷ ends (two (lock ∷ unlock ∷ []) (lock ∷ mutexTest ∷ [])) (0 ∷ 1 ∷ 0 ∷ 1 ∷ []) (0 ∷ 1 ∷ 1 ∷ 0 ∷ []) ⇒ ended apart
     ∷ pair (two (lock ∷ unlock ∷ []) (lock ∷ mutexWait ∷ [])) (name 0 1) (name 1 1) ⇒ paired (gives dependent)
-    ∷ run (two (lock ∷ unlock ∷ []) (lock ∷ mutexWait ∷ [])) (0 ∷ 1 ∷ 0 ∷ 1 ∷ []) ⇒ ran (gives 104)
+    ∷ run (two (lock ∷ unlock ∷ []) (lock ∷ mutexWait ∷ [])) (0 ∷ 1 ∷ 0 ∷ 1 ∷ []) ⇒ ran (gives 105)
     ∷ run (two (lock ∷ unlock ∷ []) (lock ∷ mutexWait ∷ [])) (0 ∷ 1 ∷ 1 ∷ 0 ∷ []) ⇒ ran (refuses 13 2)
     -- 5. both Note: the journal's order changes
     ∷ pair (two (note ∷ []) (note ∷ [])) (name 0 0) (name 1 0) ⇒ paired (gives dependent)

@@ -72,7 +72,7 @@ allNotes = tableWith 0 0 (replicate 32 note ∷ [])
 
 abbrev pub lengths : List Claim
 lengths =
-    runIn 4449 allNotes [] ⇒ ran (refuses 10 0)
+    runIn 4513 allNotes [] ⇒ ran (refuses 10 0)
     ∷ run allNotes [] ⇒ ran (gives 291)
     ∷ run allNotes (0 ∷ []) ⇒ ran (gives 297)
     ∷ run allNotes (replicate 32 0) ⇒ ran (gives 483)

@@ -1,6 +1,6 @@
 -- Document 01 as definitions, in its order, with the requests of document 02: the state, an action's views, stepping, the ready answer, the pair
 -- verdict, the state report, and the outcome of each call for every input. Then what is proved of them: the cases of the pair verdict, demand 3, what
--- holds of every reached state, that a report determines its state, the journal, the page's shape, totals that run over, two recordings of one run,
+-- holds of every reached state, that a report determines its state, depths, the journal, the page's shape, totals that run over, two recordings of one run,
 -- what the number of pairs compared tells, and the load that a seed determines.
 pub mod Site
 pub mod Views
@@ -29,6 +29,7 @@ pub mod Refusals
 pub mod Bound
 pub mod Reached
 pub mod Determined
+pub mod Depths
 pub mod Journaled
 pub mod PageShape
 pub mod Over
@@ -46,6 +47,7 @@ pub mod OverExamples
 pub mod RecordingExamples
 pub mod DrawExamples
 pub mod JournalExamples
+pub mod DepthExamples
 pub mod Listings
 pub mod Forecourt
 pub mod ComparisonExamples

@@ -11,9 +11,11 @@ use Rattle.table.specs.Format.{actorsOf, countOf}
 use Rattle.table.specs.Promise.{isPost}
 use Rattle.trace.specs.Machine.{Name}
 use Rattle.trace.specs.Order.{mem, Distinct, has}
-use Rattle.model.specs.Site.{receives, Port, opposite, Comm, unposted, pending, done, Mail, Entry, Site, name}
-use Rattle.model.specs.Views.{Post, mails, joins, notes, posts}
+use Rattle.model.specs.Site.{receives, Port, opposite, Comm, unposted, pending, done, Mail, Entry, Queued, Site}
+use Rattle.model.specs.Views.{Post, mails, notes, posts}
 use Rattle.model.specs.Step.{actionAt}
+use Rattle.model.specs.Ready.{howMany}
+use Rattle.model.specs.Pair.{isJoin, postAt}
 
 abbrev pub isPosted : Comm → Bool
 isPosted unposted = false
@@ -34,9 +36,18 @@ abbrev pub Once : List ℕ → Type 0
 Once [] = Unit {0}
 Once (a ∷ q) = (has q a ≡ false) × Once q
 
--- an actor has run a Lock of a mutex
-abbrev pub Locked : List ℕ → Site → ℕ → ℕ → Type 0
-Locked table s m a = (k : ℕ) × (k < s .actor a .position) × (posts (actionAt table (name a k)) ≡ joins m)
+-- the actors in a mutex's queue
+abbrev pub actorsIn : List Queued → List ℕ
+actorsIn q = map (λ x. x .actor) q
+
+-- each depth in a queue is at least 1, and at most what is given for its actor
+abbrev pub DepthsWithin : (most : ℕ → ℕ) → List Queued → Type 0
+DepthsWithin most [] = Unit {0}
+DepthsWithin most (x ∷ q) = (1 ≤ x .depth) × (x .depth ≤ most (x .actor)) × DepthsWithin most q
+
+-- the number of an actor's Locks of a mutex below its position, Lock being the action that joins one
+abbrev pub locksBelow : List ℕ → Site → (mutex actor : ℕ) → ℕ
+locksBelow table s m a = howMany (λ k. isJoin (postAt table a k) m) (s .actor a .position) 0
 
 -- the names in a journal
 abbrev pub notedIn : List Entry → List Name
@@ -65,9 +76,9 @@ pub record Reached (table : List ℕ) (s : Site) : Type 0 where
       → (isPosted (s .mail .comm x) ≡ true) ↔ ((isPost (actionAt table x) ≡ true) × (x .position < s .actor (x .actor) .position))
   -- the communications and the mailboxes are right, each action posting what the table says
   pub mail : MailRight (λ x. posts (actionAt table x)) (s .mail)
-  -- a mutex's queue names an actor at most once, and each that it names has run a Lock of it
-  pub queued-once : (m : ℕ) → Once (s .queue m)
-  pub queued-locked : (m a : ℕ) → has (s .queue m) a ≡ true → Locked table s m a
+  -- a mutex's queue names an actor at most once, with a depth from 1 to the number of its Locks of that mutex below its position
+  pub queued-once : (m : ℕ) → Once (actorsIn (s .queue m))
+  pub queued-depths : (m : ℕ) → DepthsWithin (locksBelow table s m) (s .queue m)
   -- the journal names each Note below its actor's position once, and nothing else
   pub noted-below : (x : Name)
       → (mem x (notedIn (s .journal)) ≡ true) ↔ ((posts (actionAt table x) ≡ notes) × (x .position < s .actor (x .actor) .position))

@@ -5,7 +5,7 @@ use mathlib.Core.List.{List, [], _∷_, _++_}
 use lib.ListN.{length, getD, replicate}
 use Rattle.table.specs.Format.{actorsOf, mailboxesOf, mutexesOf, countOf}
 use Rattle.trace.specs.Machine.{Name}
-use Rattle.model.specs.Site.{Actor, sends, receives, Comm, unposted, pending, done, Entry, Site, name}
+use Rattle.model.specs.Site.{Actor, sends, receives, Comm, unposted, pending, done, Entry, Queued, Site, name}
 
 -- 16 and 32 bits, the lowest byte first
 abbrev pub word : ℕ → List ℕ
@@ -38,9 +38,14 @@ nameBytes (x ∷ l) = x .actor ∷ x .position ∷ nameBytes l
 abbrev pub boxBytes : List Name → List ℕ
 boxBytes l = word (length l) ++ nameBytes l
 
--- the queue's length, one byte, and its actors
-abbrev pub mutexBytes : List ℕ → List ℕ
-mutexBytes l = length l ∷ l
+-- the entries of a mutex's queue, two bytes each: the actor and its depth
+abbrev pub queuedBytes : List Queued → List ℕ
+queuedBytes [] = []
+queuedBytes (x ∷ l) = x .actor ∷ x .depth ∷ queuedBytes l
+
+-- the queue's length, one byte, and its entries
+abbrev pub mutexBytes : List Queued → List ℕ
+mutexBytes l = length l ∷ queuedBytes l
 
 -- the journal's entries, six bytes each: the step's actor and action, and the value
 abbrev pub entryBytes : List Entry → List ℕ

@@ -37,17 +37,17 @@ actorsB =
     (sets 1 9 ∷ lock ∷ plain 4 1 4 ∷ plain 4 0 5 ∷ lists 5 6 (2 ∷ 3 ∷ []) ∷ [])
     -- actor 1: Set; Set; Send of cell 2 to mailbox 0; Send of cell 3 to mailbox 0; Send of cell 2 to mailbox 1
     ∷ (sets 2 67305985 ∷ sets 3 258 ∷ plain 3 0 2 ∷ plain 3 0 3 ∷ plain 3 1 2 ∷ [])
-    -- actor 2: Set; Send of cell 7 to mailbox 0; Lock; Note of cell 7
-    ∷ (sets 7 300 ∷ plain 3 0 7 ∷ lock ∷ plain 11 7 0 ∷ [])
+    -- actor 2: Set; Send of cell 7 to mailbox 0; Lock, twice; Note of cell 7
+    ∷ (sets 7 300 ∷ plain 3 0 7 ∷ lock ∷ lock ∷ plain 11 7 0 ∷ [])
     ∷ []
 
 -- with two mailboxes and two mutexes
 abbrev pub tableB : List ℕ
 tableB = tableWith 2 2 actorsB
 
--- 1·2 and 2·1 send; actor 2 locks before actor 0; 0·3 takes what 1·2 sent, the oldest; 0·4 finds it; 1·3 sends; 2·3 notes; 1·4 has not run
+-- 1·2 and 2·1 send; actor 2 locks before actor 0, and again after it; 0·3 takes what 1·2 sent, the oldest; 0·4 finds it; 1·3 sends; 2·4 notes; 1·4 has not run
 abbrev pub orderB : List ℕ
-orderB = 1 ∷ 1 ∷ 1 ∷ 2 ∷ 2 ∷ 2 ∷ 0 ∷ 0 ∷ 0 ∷ 0 ∷ 0 ∷ 1 ∷ 2 ∷ []
+orderB = 1 ∷ 1 ∷ 1 ∷ 2 ∷ 2 ∷ 2 ∷ 0 ∷ 0 ∷ 0 ∷ 0 ∷ 0 ∷ 1 ∷ 2 ∷ 2 ∷ []
 
 abbrev pub reportB : List ℕ
 reportB =
@@ -55,8 +55,8 @@ reportB =
     5 ∷ 0 ∷ 0 ∷ 0 ∷ 0 ∷ 9 ∷ 0 ∷ 0 ∷ 0 ∷ 0 ∷ 0 ∷ 0 ∷ 0 ∷ 0 ∷ 0 ∷ 0 ∷ 0 ∷ 0 ∷ 0 ∷ 0 ∷ 0 ∷ 1 ∷ 2 ∷ 3 ∷ 4 ∷ 2 ∷ 0 ∷ 0 ∷ 0 ∷ 0 ∷ 0 ∷ 0 ∷ 0
     -- actor 1, at position 4: cell 2 holds 67305985, cell 3 holds 258
     ∷ 4 ∷ 0 ∷ 0 ∷ 0 ∷ 0 ∷ 0 ∷ 0 ∷ 0 ∷ 0 ∷ 1 ∷ 2 ∷ 3 ∷ 4 ∷ 2 ∷ 1 ∷ 0 ∷ 0 ∷ 0 ∷ 0 ∷ 0 ∷ 0 ∷ 0 ∷ 0 ∷ 0 ∷ 0 ∷ 0 ∷ 0 ∷ 0 ∷ 0 ∷ 0 ∷ 0 ∷ 0 ∷ 0
-    -- actor 2, at position 4: cell 7 holds 300
-    ∷ 4 ∷ 0 ∷ 0 ∷ 0 ∷ 0 ∷ 0 ∷ 0 ∷ 0 ∷ 0 ∷ 0 ∷ 0 ∷ 0 ∷ 0 ∷ 0 ∷ 0 ∷ 0 ∷ 0 ∷ 0 ∷ 0 ∷ 0 ∷ 0 ∷ 0 ∷ 0 ∷ 0 ∷ 0 ∷ 0 ∷ 0 ∷ 0 ∷ 0 ∷ 44 ∷ 1 ∷ 0 ∷ 0
+    -- actor 2, at position 5: cell 7 holds 300
+    ∷ 5 ∷ 0 ∷ 0 ∷ 0 ∷ 0 ∷ 0 ∷ 0 ∷ 0 ∷ 0 ∷ 0 ∷ 0 ∷ 0 ∷ 0 ∷ 0 ∷ 0 ∷ 0 ∷ 0 ∷ 0 ∷ 0 ∷ 0 ∷ 0 ∷ 0 ∷ 0 ∷ 0 ∷ 0 ∷ 0 ∷ 0 ∷ 0 ∷ 0 ∷ 44 ∷ 1 ∷ 0 ∷ 0
     -- 0·0 Set
     ∷ 0 ∷ 0 ∷ 0 ∷ 0 ∷ 0 ∷ 0 ∷ 0 ∷ 0
     -- 0·1 Lock
@@ -83,24 +83,26 @@ reportB =
     ∷ 1 ∷ 0 ∷ 0 ∷ 0 ∷ 44 ∷ 1 ∷ 0 ∷ 0
     -- 2·2 Lock
     ∷ 0 ∷ 0 ∷ 0 ∷ 0 ∷ 0 ∷ 0 ∷ 0 ∷ 0
-    -- 2·3 Note
+    -- 2·3 Lock
+    ∷ 0 ∷ 0 ∷ 0 ∷ 0 ∷ 0 ∷ 0 ∷ 0 ∷ 0
+    -- 2·4 Note
     ∷ 0 ∷ 0 ∷ 0 ∷ 0 ∷ 0 ∷ 0 ∷ 0 ∷ 0
     -- mailbox 0: two Sends, 2·1 and 1·3
     ∷ 2 ∷ 0 ∷ 2 ∷ 1 ∷ 1 ∷ 3
     -- mailbox 1: one Receive, 0·2
     ∷ 1 ∷ 0 ∷ 0 ∷ 2
-    -- mutex 0: actors 2 and 0
-    ∷ 2 ∷ 2 ∷ 0
+    -- mutex 0: actor 2 with depth 2, actor 0 with depth 1
+    ∷ 2 ∷ 2 ∷ 2 ∷ 0 ∷ 1
     -- mutex 1: nobody
     ∷ 0
-    -- the journal: one entry, 2·3 with 300
-    ∷ 1 ∷ 0 ∷ 2 ∷ 3 ∷ 44 ∷ 1 ∷ 0 ∷ 0
+    -- the journal: one entry, 2·4 with 300
+    ∷ 1 ∷ 0 ∷ 2 ∷ 4 ∷ 44 ∷ 1 ∷ 0 ∷ 0
     ∷ []
 
 -- the run answers with the length, and leaves these bytes
 abbrev pub reports : List Claim
 reports =
     bytes tableA (0 ∷ 1 ∷ 0 ∷ 1 ∷ []) ⇒ written reportA
-    ∷ run tableB orderB ⇒ ran (gives 233)
+    ∷ run tableB orderB ⇒ ran (gives 243)
     ∷ bytes tableB orderB ⇒ written reportB
     ∷ []

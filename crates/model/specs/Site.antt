@@ -61,11 +61,16 @@ pub record Entry : Type 0 where
   pub step : Name
   pub value : ℕ
 
+-- an entry of a mutex's queue: an actor, and its depth, the number of its Locks that are not undone
+pub record Queued : Type 0 where
+  pub actor : ℕ
+  pub depth : ℕ
+
 pub record Site : Type 0 where
   pub actor : ℕ → Actor
   pub mail : Mail
-  -- the actors queued at each mutex: the first owns it
-  pub queue : ℕ → List ℕ
+  -- the actors queued at each mutex, each with its depth: the first owns it
+  pub queue : ℕ → List Queued
   -- what the Notes have noted, the oldest first
   pub journal : List Entry
 
