@@ -11,7 +11,6 @@ use Rattle.model.specs.Examples.{lock, unlock, mutexTest, mutexWait, tab
 
 -- an entry of a queue
 infix 80 _at_
-
 abbrev pub _at_ : (actor depth : ℕ) → Queued
 actor at depth = record { actor = actor; depth = depth }
 
