@@ -30,7 +30,7 @@ depth-absent (x ∷ q) a n = go (which (eqb a (x .actor))) (depth-absent q a)
     go (inr e) rest = rw e (rest (rw e at n))
 
 -- a Lock adds 1 to its actor's
-join-own : (q : List Queued) (a : ℕ) → depthIn (join q a) a ≡ suc (depthIn q a)
+pub join-own : (q : List Queued) (a : ℕ) → depthIn (join q a) a ≡ suc (depthIn q a)
 join-own [] a = rw (eq-eqb a a refl)
 join-own (x ∷ q) a = go (which (eqb a (x .actor))) (join-own q a)
   where

@@ -1,6 +1,7 @@
 -- The queues in arrays and in the model.
 pub mod Scan
-pub mod Compacting
+pub mod Entries
 pub mod Queues
 pub mod Owning
+pub mod Closing
 pub mod Steps

@@ -9,7 +9,7 @@ use lib.ListN.{length, getD, take, drop, replicate}
 use Rattle.table.specs.declared.Action.{Action}
 use Rattle.table.specs.Decode.{actionOf}
 use Rattle.trace.specs.Machine.{Name}
-use Rattle.model.specs.Site.{Actor as Record, Side, sends, receives, Port, Comm, unposted, pending, done, Mail, Entry, Site}
+use Rattle.model.specs.Site.{Actor as Record, Side, sends, receives, Port, Comm, unposted, pending, done, Mail, Entry, Queued, Site}
 use Rattle.model.specs.Step as Step
 use Rattle.names.specs.InByte.{nameOf}
 use Rattle.state.specs.declared.Actor.{Actor}
@@ -50,12 +50,19 @@ waitingOf log ends p = map nameOf (pendingIn log ends (portNumber p))
 abbrev pub mailOf : (comms log ends : List ℕ) → Mail
 mailOf comms log ends = record { comm = commsOf comms; waiting = waitingOf log ends }
 
--- a mutex has nine bytes: its queue's length, then the actors in it
+-- an entry of a mutex's queue in one byte: its actor, and 8 for each Lock beyond the first
+abbrev pub queuedOf : ℕ → Queued
+queuedOf b = record { actor = b % 8; depth = b / 8 + 1 }
+
+-- a mutex has nine bytes: its queue's length, then its entries
 abbrev pub sizeIn : (queues : List ℕ) → ℕ → ℕ
 sizeIn queues m = getD queues (9 * m) 0
 
-abbrev pub queuesOf : (queues : List ℕ) → ℕ → List ℕ
-queuesOf queues m = take (sizeIn queues m) (drop (9 * m + 1) queues)
+abbrev pub entriesIn : (queues : List ℕ) → ℕ → List ℕ
+entriesIn queues m = take (sizeIn queues m) (drop (9 * m + 1) queues)
+
+abbrev pub queuesOf : (queues : List ℕ) → ℕ → List Queued
+queuesOf queues m = map queuedOf (entriesIn queues m)
 
 -- an entry of the journal in one number: its step's name, and 256 · value
 abbrev pub entryOf : ℕ → Entry
@@ -119,7 +126,7 @@ abbrev pub EightCells : Actor → Type 0
 EightCells r = length (r .cells) ≡ 8
 
 -- the site as a step of one actor sees it: the others' records and the journal play no part
-abbrev pub seenFrom : Actor → Mail → (ℕ → List ℕ) → Site
+abbrev pub seenFrom : Actor → Mail → (ℕ → List Queued) → Site
 seenFrom r mail queue = record { actor = λ a. recordOf r; mail = mail; queue = queue; journal = [] }
 
 -- the actor's next action

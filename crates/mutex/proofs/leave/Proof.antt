@@ -1,13 +1,16 @@
--- `mutex::leave` meets its contract.
+-- `mutex::leave` meets its contract: nothing changes, a byte falls by 8, or those behind move up.
 -- Assumes nothing.
 use native.Mathlib.Omega.{arith}
 use borrow.Author.Needs.{needs}
-use Rattle.mutex.proofs.Steps.{leaves}
+use Rattle.mutex.proofs.Steps.{stays, lessens, leaves}
 use Rattle.mutex.proofs.leave.Statement.{statement}
 use Rattle.mutex.proofs.leave.Tie as tie
 
 mul-size : tie.Need-mul-size
 mul-size c = search needs
+
+add-at : tie.Need-add-at
+add-at c = search needs
 
 element-copy-out-wide : tie.Need-element-copy-out-wide
 element-copy-out-wide c = search needs
@@ -15,41 +18,104 @@ element-copy-out-wide c = search needs
 wide-requires : tie.Need-wide-requires
 wide-requires c κs = search needs
 
-add-compact : tie.Need-add-compact
-add-compact c = search needs
+cast-place : tie.Need-cast-place
+cast-place c = search needs
 
-cast-compact : tie.Need-cast-compact
-cast-compact c = search needs
-
-compact-requires : tie.Need-compact-requires
-compact-requires c κs =
-    let start = c .before .before .before in
-    (start .pre .0 .long, omega (arith, start .pre .0 .bounded (start .args .m), c .before .wide .ensures .0))
-
-cast-queues : tie.Need-cast-queues
-cast-queues c = omega (arith, c .compact .ensures .fewer, c .before .before .wide .ensures .1)
-
-element-write-queues : tie.Need-element-write-queues
-element-write-queues c = omega (arith, c .compact .ensures .long)
+place-requires : tie.Need-place-requires
+place-requires c κs =
+    let s = c .before .before .before in
+    (s .pre .0 .long, omega (arith, s .pre .0 .bounded (s .args .m), c .before .wide .ensures .0))
 
 returns : tie.Need-returns
 returns c =
-    let start = c .before .before .before .before in
-    let x = start .args in
-    let n = c .before .before .wide in
-    leaves (x .queues .now) (x .m) (x .a) (start .pre .0) (start .pre .1) (n .result) (n .ensures .0) (c .compact .last .0) (c .compact .result)
-    (c .compact .ensures)
+    let s = c .before .before .before .before .before in
+    let x = s .args in
+    let n = c .before .before .before .wide in
+    stays (x .queues .now) (x .m) (x .a) (s .pre .0) (s .pre .1) (n .result) (n .ensures .0) (c .before .place .result) (c .before .place .ensures)
+    (c .if1 .taken)
+
+add-b : tie.Need-add-b
+add-b c = search needs
+
+element-copy-out-b : tie.Need-element-copy-out-b
+element-copy-out-b c =
+    let s = c .before .before .before .before .before in
+    omega (arith, s .pre .0 .bounded (s .args .m), c .before .before .before .wide .ensures .0)
+
+add-queues : tie.Need-add-queues
+add-queues c = search needs
+
+element-write-queues : tie.Need-element-write-queues
+element-write-queues c =
+    let s = c .before .before .before .before .before .before .before in
+    omega (arith, s .pre .0 .bounded (s .args .m), c .before .before .before .before .before .wide .ensures .0)
+
+returns-2 : tie.Need-returns-2
+returns-2 c =
+    let s = c .before .before .before .before .before .before .before in
+    let x = s .args in
+    let n = c .before .before .before .before .before .wide in
+    let i = c .before .before .before .place in
+    lessens (x .queues .now) (x .m) (x .a) (s .pre .0) (s .pre .1) (n .result) (n .ensures .0) (i .result) (i .ensures)
+    (c .before .before .if1 .left)
+    (c .if2 .taken)
+
+add-close : tie.Need-add-close
+add-close c = search needs
+
+sub-close : tie.Need-sub-close
+sub-close c = search needs
+
+sub-close-2 : tie.Need-sub-close-2
+sub-close-2 c = search needs
+
+close-requires : tie.Need-close-requires
+close-requires c κs =
+    let s = c .before .before .before .before .before .before .before .before in
+    (s .pre .0 .long, omega (arith, s .pre .0 .bounded (s .args .m), c .before .before .before .before .before .before .wide .ensures .0))
+
+sub-queues : tie.Need-sub-queues
+sub-queues c = search needs
+
+cast-queues : tie.Need-cast-queues
+cast-queues c = search needs
+
+element-write-queues-2 : tie.Need-element-write-queues-2
+element-write-queues-2 c = search needs
+
+returns-3 : tie.Need-returns-3
+returns-3 c =
+    let s = c .before .before .before .before .before .before .before .before .before in
+    let x = s .args in
+    let n = c .before .before .before .before .before .before .before .wide in
+    let i = c .before .before .before .before .before .place in
+    leaves (x .queues .now) (x .m) (x .a) (s .pre .0) (s .pre .1) (n .result) (n .ensures .0) (i .result) (i .ensures)
+    (c .before .before .before .before .if1 .left)
+    (c .before .before .if2 .left)
+    (c .close .last .0)
+    (c .close .ensures)
 
 pub leave-spec : {M : Type 1} → statement M
 leave-spec =
     tie.close
     (tie.spec
     mul-size
+    add-at
     element-copy-out-wide
     wide-requires
-    add-compact
-    cast-compact
-    compact-requires
-    cast-queues
+    cast-place
+    place-requires
+    returns
+    add-b
+    element-copy-out-b
+    add-queues
     element-write-queues
-    returns)
+    returns-2
+    add-close
+    sub-close
+    sub-close-2
+    close-requires
+    sub-queues
+    cast-queues
+    element-write-queues-2
+    returns-3)
