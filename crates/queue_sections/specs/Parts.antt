@@ -5,8 +5,8 @@ use mathlib.Core.List.{List, _++_, map}
 use lib.ListN.{take, drop}
 use Rattle.trace.specs.Machine.{Name}
 use Rattle.model.specs.Site.{sends, receives}
-use Rattle.model.specs.Report.{parts, nameBytes, boxBytes, mutexBytes}
-use Rattle.state.specs.State.{pendingIn, waitingOf, queuesOf}
+use Rattle.model.specs.Report.{parts, nameBytes, boxBytes, queuedBytes, mutexBytes}
+use Rattle.state.specs.State.{pendingIn, waitingOf, queuedOf, queuesOf}
 use Rattle.names.specs.InByte.{nameOf}
 
 -- n step names of a log from a place on; those pending at a port; a mailbox's queue, which is what is pending at its two ports; the first n
@@ -24,6 +24,9 @@ queueOf log ends m =
 abbrev pub boxesBytes : (log ends : List ℕ) → ℕ → List ℕ
 boxesBytes log ends n = parts (λ m. boxBytes (queueOf log ends m)) n 0
 
--- the first n mutexes
+-- n entries of the mutexes' queues from a place on; the first n mutexes
+abbrev pub entriesBytes : (queues : List ℕ) → ℕ → ℕ → List ℕ
+entriesBytes queues from n = queuedBytes (map queuedOf (take n (drop from queues)))
+
 abbrev pub mutexesBytes : (queues : List ℕ) → ℕ → List ℕ
 mutexesBytes queues n = parts (λ m. mutexBytes (queuesOf queues m)) n 0

@@ -2,11 +2,11 @@
 // their number.
 ghost use mathlib.Core.Path.{_≡_};
 ghost use Prim.Native.Nat.{_+_, _-_, _*_, _<_, _≤_};
-ghost use lib.ListN.{length, take, drop};
+ghost use lib.ListN.{length};
 ghost use Rattle.model.specs.Report.{boxBytes, mutexBytes};
 ghost use Rattle.state.specs.State.{headIn, tailIn, queuesOf, LogRoom, QueueRoom};
 ghost use Rattle.writing.specs.Written.{Wrote};
-ghost use Rattle.queue_sections.specs.Parts.{stepsBytes, portBytes, queueOf, boxesBytes, mutexesBytes};
+ghost use Rattle.queue_sections.specs.Parts.{stepsBytes, portBytes, queueOf, boxesBytes, entriesBytes, mutexesBytes};
 use table::bytes;
 
 // So many step names of the log from a place on.
@@ -70,27 +70,30 @@ pub fn boxes_part(log: &[u8; 4096], ends: &[usize; 32], count: usize, buf: &mut 
     at
 }
 
-// So many bytes of the queues from a place on.
-fn queue(queues: &[u8; 72], from: usize, count: usize, buf: &mut [u8]) -> usize
-    requires { ⌜ (length (now queues) ≡ 72) × (from + count ≤ 72) × (count ≤ length (now buf)) ⌝ }
-    ensures { λ r. ⌜ Wrote (now (buf .entry)) (take count (drop from (now (queues .entry)))) (now (buf .exit)) r ⌝ }
+// So many entries of the queues from a place on: the actor and its depth.
+fn entries(queues: &[u8; 72], from: usize, count: usize, buf: &mut [u8]) -> usize
+    requires { ⌜ (length (now queues) ≡ 72) × (from + count ≤ 72) × (length (entriesBytes (now queues) from count) ≤ length (now buf)) ⌝ }
+    ensures { λ r. ⌜ Wrote (now (buf .entry)) (entriesBytes (now (queues .entry)) from count) (now (buf .exit)) r ⌝ }
 {
+    let mut at = 0;
     let mut i = 0;
     while i < count {
-        buf[i] = queues[from + i];
+        let b = bytes::wide(queues[from + i]);
+        at += writing::two((b % 8) as u8, (b / 8 + 1) as u8, &mut buf[at..]);
         i += 1;
     }
-    i
+    at
 }
 
-// A mutex's queue, as it stands: its length and its actors.
+// A mutex's queue: its length and its entries.
 fn mutex_part(queues: &[u8; 72], m: usize, buf: &mut [u8]) -> usize
     requires { ⌜ QueueRoom (now queues) × (m < 8) × (length (mutexBytes (queuesOf (now queues) m)) ≤ length (now buf)) ⌝ }
     ensures { λ r. ⌜ Wrote (now (buf .entry)) (mutexBytes (queuesOf (now (queues .entry)) m)) (now (buf .exit)) r ⌝ }
 {
     let from = 9 * m;
-    let size = bytes::wide(queues[from]);
-    queue(queues, from, size + 1, buf)
+    let size = queues[from];
+    let at = writing::one(size, buf);
+    at + entries(queues, from + 1, bytes::wide(size), &mut buf[at..])
 }
 
 // The mutexes.

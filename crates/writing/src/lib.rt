@@ -6,6 +6,15 @@ ghost use lib.ListN.{length};
 ghost use Rattle.model.specs.Report.{long};
 ghost use Rattle.writing.specs.Written.{Wrote};
 
+// One byte.
+pub fn one(a: u8, buf: &mut [u8]) -> usize
+    requires { ⌜ 1 ≤ length (now buf) ⌝ }
+    ensures { λ r. ⌜ Wrote (now (buf .entry)) (a ∷ []) (now (buf .exit)) r ⌝ }
+{
+    buf[0] = a;
+    1
+}
+
 // Two bytes.
 pub fn two(a: u8, b: u8, buf: &mut [u8]) -> usize
     requires { ⌜ 2 ≤ length (now buf) ⌝ }
