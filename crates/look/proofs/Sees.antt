@@ -5,7 +5,7 @@ use mathlib.Core.Path.{_≡_, refl, ap}
 use mathlib.Core.List.{List}
 use Rattle.table.specs.declared.Action.{Action}
 use Rattle.trace.specs.Machine.{Name}
-use Rattle.model.specs.Site.{Site, Comm}
+use Rattle.model.specs.Site.{Comm, Queued, Site}
 use Rattle.model.specs.Views.{Look, blind, communications, mutexes, looks}
 use Rattle.model.specs.Local.{see}
 use Rattle.model.specs.Step.{stepOf}
@@ -15,7 +15,7 @@ pub see-parts : (s t : Site) (a : ℕ) (l : Look) → s .mail .comm ≡ t .mail 
 see-parts s t a blind m q = refl
 see-parts s t a (communications l) m q =
     ap (λ (x : Name → Comm). see (record { actor = s .actor; mail = record { comm = x; waiting = s .mail .waiting }; queue = s .queue; journal = s .journal }) a (communications l)) m
-see-parts s t a (mutexes l) m q = ap (λ (x : ℕ → List ℕ). see (record { actor = s .actor; mail = s .mail; queue = x; journal = s .journal }) a (mutexes l)) q
+see-parts s t a (mutexes l) m q = ap (λ (x : ℕ → List Queued). see (record { actor = s .actor; mail = s .mail; queue = x; journal = s .journal }) a (mutexes l)) q
 
 -- and what an action is as the next step depends on its actor's cells besides
 pub step-parts : (table : List ℕ) (s t : Site) (a : ℕ) (x : Action) → s .actor a .cells ≡ t .actor a .cells → s .mail .comm ≡ t .mail .comm

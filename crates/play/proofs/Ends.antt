@@ -17,7 +17,7 @@ use Rattle.model.specs.Schedule.{machine, endState, RefusalNumbers, checkSchedu
 use Rattle.model.proofs.Checks.{taken-checks}
 use Rattle.model.proofs.ReportBound.{entries-room}
 use Rattle.names.specs.InByte.{nameOf}
-use Rattle.state.specs.State.{recordOf, recordsOf, freshActor, commOf, commsOf, waitingOf, queuesOf, entryOf, numberNoted, journalOf, siteOf, portNumber}
+use Rattle.state.specs.State.{recordOf, recordsOf, freshActor, commOf, commsOf, waitingOf, queuedOf, queuesOf, entryOf, numberNoted, journalOf, siteOf, portNumber}
 use Rattle.play.specs.Parts.{Empty, Ended}
 use Rattle.state.specs.declared.Actor.{Actor}
 use Rattle.play.proofs.Playing.{Playing, Named}
@@ -55,7 +55,7 @@ fresh-queues : queuesOf (zeros 72) ≡ (λ m. [])
 fresh-queues = fun-ext each
   where
     each : (m : ℕ) → queuesOf (zeros 72) m ≡ []
-    each m = ap (λ (n : ℕ). take n (drop (9 * m + 1) (zeros 72))) (getD-alike {A = ℕ} 72 (9 * m) 0)
+    each m = ap (λ (n : ℕ). map queuedOf (take n (drop (9 * m + 1) (zeros 72)))) (getD-alike {A = ℕ} 72 (9 * m) 0)
 
 fresh-journal : (journal : List ℕ) → numberNoted journal ≡ 0 → journalOf journal ≡ []
 fresh-journal journal e = ap (λ (n : ℕ). map entryOf (take n (drop 1 journal))) e

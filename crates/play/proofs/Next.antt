@@ -20,9 +20,10 @@ use Rattle.table.specs.Decode.{actionOf}
 use Rattle.trace.specs.Machine.{Name}
 use Rattle.trace.specs.Schedule.{accepted, final, names}
 use Rattle.trace.proofs.Bools.{which}
-use Rattle.model.specs.Site.{Site, Actor as Record, upd, name, initial}
+use Rattle.model.specs.Site.{Queued, Site, Actor as Record, upd, name, initial}
 use Rattle.model.specs.Views.{looks}
 use Rattle.model.specs.Mutex.{join}
+use Rattle.model.specs.Depths.{depthIn}
 use Rattle.model.specs.Local.{Seen, see, local}
 use Rattle.model.specs.Step.{NextStep, taken, waiting, over, isTaken, unfinished, stepOf, nextStep, nextAction, ready, step}
 use Rattle.model.specs.Schedule.{machine, RefusalNumbers, checkStep, checkFrom, checkSchedule}
@@ -38,7 +39,7 @@ use Rattle.step.specs.declared.Stepped.{Stepped}
 use Rattle.names.proofs.InByte.{name-byte}
 use Rattle.model.proofs.Checks.{ready-parts, parts-ready, checks-after}
 use Rattle.play.proofs.Prefix.{accepted-more, final-more, names-more}
-use Rattle.play.proofs.Playing.{reached, Playing, Named, records-set, join-most}
+use Rattle.play.proofs.Playing.{reached, Playing, Named, records-set, join-most, deeper-most}
 use Rattle.journal.proofs.Held.{counts}
 use Rattle.look.proofs.Sees.{see-parts, step-parts}
 
@@ -160,8 +161,12 @@ module _ {table schedule comms log ends queues journal : List ℕ} {actors : Lis
               journal-room = P .journal-room;
               tail-room = λ e n. let small = room-more (ready-here e) in omega (arith, P .tail-room n);
               join-room = λ m.
-                  subst (λ (q : ℕ → List ℕ). length (join (q m) a) ≤ 8) (sym (ap (λ (s : Site). s .queue) (P .site)))
+                  subst (λ (q : ℕ → List Queued). length (join (q m) a) ≤ 8) (sym (ap (λ (s : Site). s .queue) (P .site)))
                   (join-most table (reached table schedule i) a (P .accepted-table) (reached-end table (take i schedule) (P .taken)) in-table m);
+              depth-room = λ m.
+                  subst (λ (q : ℕ → List Queued). depthIn (join (q m) a) a ≤ 32) (sym (ap (λ (s : Site). s .queue) (P .site)))
+                  (deeper-most table (reached table schedule i) a (P .accepted-table) (reached-end table (take i schedule) (P .taken)) in-table
+                  (omega (arith, ap (λ (q : Record). q .position) (record-reached a))) m);
               note-room = note-more;
             }
 

@@ -7,21 +7,23 @@ use mathlib.Core.Logic.{_⊎_, inl, inr}
 use mathlib.Core.List.{List, map}
 use Prim.Native.Nat.{ℕ, _+_, _<_, _≤_}
 use native.Mathlib.Omega.{arith}
-use borrow.Author.Tests.{eq-eqb, eqb-true, eqb-false}
+use borrow.Author.Tests.{eqb-true, eqb-false}
 use lib.Dec.{eqb}
-use lib.ListN.{length, getD, take, set}
+use lib.ListN.{length, getD, take, set, length-map}
 use lib.Seq.{getD-set-same, getD-set-other}
-use Rattle.table.specs.Format.{actorsOf}
+use Rattle.table.specs.Format.{actorsOf, countOf}
 use Rattle.table.specs.Promise.{WellFormed}
 use Rattle.trace.specs.Schedule.{accepted, final, names}
 use Rattle.trace.specs.Order.{has}
 use Rattle.trace.proofs.Bools.{which}
 use Rattle.model.specs.Site.{Site, upd, initial}
-use Rattle.model.specs.Views.{joins}
-use Rattle.model.specs.Mutex.{join, queueing}
+use Rattle.model.specs.Mutex.{join}
+use Rattle.model.specs.Pair.{isJoin, postAt}
+use Rattle.model.specs.Depths.{depthIn}
 use Rattle.model.specs.Schedule.{machine}
-use Rattle.model.specs.Reached.{Once, Reached}
-use Rattle.model.proofs.ReportBoundQueues.{once-count, once-queueing, queueing-members}
+use Rattle.model.specs.Reached.{actorsIn, locksBelow, Reached}
+use Rattle.model.proofs.ReportBoundQueues.{once-count, once-join, join-members}
+use Rattle.model.proofs.QueuedDepths.{join-own, depth-most, queued-locked}
 use Rattle.model.proofs.ReportBoundCounts.{howMany-most}
 use Rattle.model.proofs.ReportBoundLengths.{stepped-actor}
 use Rattle.names.specs.InByte.{nameOf}
@@ -64,14 +66,30 @@ records-set actors a next h = fun-ext (λ j. go j (which (eqb j a)))
 -- no queue outgrows eight by a Lock
 pub join-most : (table : List ℕ) (s : Site) (a : ℕ) → WellFormed table → Reached table s → a < actorsOf table → (m : ℕ) → length (join (s .queue m) a) ≤ 8
 join-most table s a ok i here m =
-    let once : Once (join (s .queue m) a) = rw (eq-eqb m m refl) at (once-queueing (joins m) a (s .queue) (i .queued-once) m) in
-    omega (arith, ok .actors-most, once-count (λ b. true) (actorsOf table) 0 (join (s .queue m) a) once member, howMany-most (λ b. true) (actorsOf table) 0)
+    omega (
+      arith,
+      ok .actors-most,
+      length-map (join (s .queue m) a) (λ x. x .actor),
+      once-count (λ b. true) (actorsOf table) 0 (actorsIn (join (s .queue m) a)) (once-join a (s .queue m) (i .queued-once m)) member,
+      howMany-most (λ b. true) (actorsOf table) 0,
+    )
   where
-    in-table : (b : ℕ) → (has (s .queue m) b ≡ true) ⊎ ((b ≡ a) × (joins m ≡ joins m)) → b < actorsOf table
-    in-table b (inl h) = let k = i .queued-locked m b h in stepped-actor table s i b (omega (arith, k .1))
-    in-table b (inr h) = omega (arith, h .0)
+    in-table : (b : ℕ) → (b ≡ a) ⊎ (has (actorsIn (s .queue m)) b ≡ true) → b < actorsOf table
+    in-table b (inl e) = omega arith
+    in-table b (inr h) =
+        let k = queued-locked table s m b (s .queue m) (i .queued-depths m) h in stepped-actor table s i b (omega (arith, k .1))
 
-    member : (b : ℕ) → has (join (s .queue m) a) b ≡ true → (0 ≤ b) × (b < 0 + actorsOf table) × (true ≡ true)
-    member b h =
-        let q : has (queueing (joins m) a (s .queue) m) b ≡ true = rw (eq-eqb m m refl) h in
-        (omega arith, omega (arith, in-table b (queueing-members (joins m) a (s .queue) m b q)), refl)
+    member : (b : ℕ) → has (actorsIn (join (s .queue m) a)) b ≡ true → (0 ≤ b) × (b < 0 + actorsOf table) × (true ≡ true)
+    member b h = (omega arith, omega (arith, in-table b (join-members a b (s .queue m) h)), refl)
+
+-- and no depth 32: an actor that has an action left has locked at most 31 times
+pub deeper-most : (table : List ℕ) (s : Site) (a : ℕ) → WellFormed table → Reached table s → a < actorsOf table → s .actor a .position < countOf table a
+    → (m : ℕ) → depthIn (join (s .queue m) a) a ≤ 32
+deeper-most table s a ok i here left m =
+    omega (
+      arith,
+      join-own (s .queue m) a,
+      depth-most (locksBelow table s m) (s .queue m) a (i .queued-depths m),
+      howMany-most (λ k. isJoin (postAt table a k) m) (s .actor a .position) 0,
+      ok .actions-most a here,
+    )

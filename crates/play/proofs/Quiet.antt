@@ -9,7 +9,7 @@ use lib.Dec.{ltb}
 use Rattle.table.specs.Format.{actorsOf, countOf}
 use Rattle.table.specs.Decode.{actionOf}
 use Rattle.trace.specs.Machine.{Name}
-use Rattle.model.specs.Site.{Site, Actor, Mail}
+use Rattle.model.specs.Site.{Queued, Site, Actor, Mail}
 use Rattle.model.specs.Views.{Post, posts}
 use Rattle.model.specs.Mail.{mailing}
 use Rattle.model.specs.Mutex.{queueing}
@@ -23,7 +23,7 @@ unheard-mail : (p : Post) (me : Name) (v : ℕ) (m : Mail) → Unheard p → mai
 unheard-mail p me v m (inl e) = rw e
 unheard-mail p me v m (inr e) = rw e
 
-unheard-queues : (p : Post) (a : ℕ) (f : ℕ → List ℕ) → Unheard p → queueing p a f ≡ f
+unheard-queues : (p : Post) (a : ℕ) (f : ℕ → List Queued) → Unheard p → queueing p a f ≡ f
 unheard-queues p a f (inl e) = rw e
 unheard-queues p a f (inr e) = rw e
 

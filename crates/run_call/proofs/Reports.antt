@@ -16,14 +16,14 @@ use Rattle.execution.specs.Parts.{AtEnd}
 use Rattle.execution.proofs.Ends.{all-taken, positions-small}
 
 module _ {table schedule comms log ends queues journal names : List ℕ} {actors : List Actor} (E : AtEnd table schedule comms log ends queues journal names actors) where
-  -- no report's length passes 4,450
-  pub report-small : length (report table (siteOf actors comms log ends queues journal)) ≤ 4450
+  -- no report's length passes 4,514
+  pub report-small : length (report table (siteOf actors comms log ends queues journal)) ≤ 4514
   report-small =
       let fit = reports-fit table (E .promise) in
-      let small : length (report table (endState table schedule)) ≤ 4450 = omega (arith, fit .fits schedule (all-taken E), fit .room) in
-      subst (λ (s : Site). length (report table s) ≤ 4450) (sym (E .end .site)) small
+      let small : length (report table (endState table schedule)) ≤ 4514 = omega (arith, fit .fits schedule (all-taken E), fit .room) in
+      subst (λ (s : Site). length (report table s) ≤ 4514) (sym (E .end .site)) small
 
-  pub reportable : (buffer : List ℕ) → 4450 ≤ length buffer → Reportable table actors comms log ends queues journal buffer
+  pub reportable : (buffer : List ℕ) → 4514 ≤ length buffer → Reportable table actors comms log ends queues journal buffer
   reportable buffer room =
       record {
         accepted = E .promise;

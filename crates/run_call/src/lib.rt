@@ -11,7 +11,7 @@ pub fn run(table: &[u8], schedule: &[u8], report: &mut [u8]) -> LengthAnswer
     ensures answer { λ r. ⌜ lengthResult r ≡ runOf (now (table .entry)) (now (schedule .entry)) (now (report .entry)) .result ⌝ }
     ensures lent { λ r. ⌜ now (report .exit) ≡ runOf (now (table .entry)) (now (schedule .entry)) (now (report .entry)) .lent ⌝ }
 {
-    if report.len() < 4450 {
+    if report.len() < 4514 {
         return LengthAnswer::Refused(Refusal::ReportRoom);
     }
     let mut comms = [0u64; 256];

@@ -10,9 +10,10 @@ use Rattle.table.specs.declared.Action.the-variants.{Add, Note}
 use Rattle.table.specs.Format.{actorsOf, countOf}
 use Rattle.table.specs.Decode.{actionOf}
 use Rattle.table.specs.Promise.{WellFormed}
-use Rattle.model.specs.Site.{Mail, Entry, name}
+use Rattle.model.specs.Site.{Mail, Entry, Queued, name}
 use Rattle.model.specs.Views.{looks, posts, sent, total, runsOver}
 use Rattle.model.specs.Mutex.{queueing, join}
+use Rattle.model.specs.Depths.{depthIn}
 use Rattle.model.specs.Mail.{mailing}
 use Rattle.model.specs.Journal.{noting}
 use Rattle.model.specs.Local as Local
@@ -33,6 +34,7 @@ pub record Steppable (table : List ℕ) (a : ℕ) (r : Actor) (comms log ends qu
   -- a step that is taken has room to post
   pub tail-room : stepOf table (seenFrom r (mailOf comms log ends) (queuesOf queues)) a (nextOf table a r) ≡ taken → (n : ℕ) → tailIn ends n < 256
   pub join-room : (m : ℕ) → length (join (queuesOf queues m) a) ≤ 8
+  pub depth-room : (m : ℕ) → depthIn (join (queuesOf queues m) a) a ≤ 32
   pub note-room : (cell : ℕ) → nextOf table a r ≡ Note cell → numberNoted journal < 256
 
 -- where a step was taken, its record has this position and these cells
@@ -55,7 +57,7 @@ SmallPlace Local.unseen = Unit {0}
 SmallPlace (Local.seen place number value) = place ≤ 4
 
 -- a step of the action x was taken as the model takes it
-pub record Took (table : List ℕ) (a : ℕ) (x : Action) (r : Actor) (mail : Mail) (queue : ℕ → List ℕ) (journal : List Entry) (mail′ : Mail) (queue′ : ℕ → List ℕ) (journal′ : List Entry) (next : Actor) : Type 0 where
+pub record Took (table : List ℕ) (a : ℕ) (x : Action) (r : Actor) (mail : Mail) (queue : ℕ → List Queued) (journal : List Entry) (mail′ : Mail) (queue′ : ℕ → List Queued) (journal′ : List Entry) (next : Actor) : Type 0 where
   pub record-next : recordOf next ≡ Local.local (actionOf table a) x (Local.see (seenFrom r mail queue) a (looks x)) (recordOf r)
   pub mail-next : mail′ ≡ mailing (posts x) (name a (r .position)) (sent x (r .cells)) mail
   pub queue-next : queue′ ≡ queueing (posts x) a queue

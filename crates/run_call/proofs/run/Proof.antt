@@ -14,7 +14,7 @@ returns : tie.Need-returns
 unfolding runOf
 returns c =
     let s = c .before .before .before .before in
-    too-small 4450 10 (readyChecks (s .args .table .now) (s .args .schedule .now)) (report (s .args .table .now) (endState (s .args .table .now) (s .args .schedule .now))) (s .args .report .now) (c .if1 .taken)
+    too-small 4514 10 (readyChecks (s .args .table .now) (s .args .schedule .now)) (report (s .args .table .now) (endState (s .args .table .now) (s .args .schedule .now))) (s .args .report .now) (c .if1 .taken)
 
 execute-requires : tie.Need-execute-requires
 execute-requires c κs = search needs
@@ -45,14 +45,14 @@ returns-2 c =
     let s = c .before .before .before .before .before .before .before .before .before .before .before .before .before .before .before .before .before .before .before .before .before .before .before in
     let E = c .before .before .before .before .before .before .before .before .before .before .before .before .execute .ensures .ended (c .before .before .before .before .before .before .before .before .before .before .enum-told .given .1) in
     let w = c .before .before .write .ensures in
-    rest-accepted 4450 10 (readyChecks (s .args .table .now) (s .args .schedule .now)) (report (s .args .table .now) (endState (s .args .table .now) (s .args .schedule .now))) (s .args .report .now) _ _ _ (c .before .before .before .before .before .before .before .before .before .before .before .before .before .before .before .before .before .before .before .if1 .left) (E .checked) (ap (report (s .args .table .now)) (E .end .site)) (w .0) (w .1)
+    rest-accepted 4514 10 (readyChecks (s .args .table .now) (s .args .schedule .now)) (report (s .args .table .now) (endState (s .args .table .now) (s .args .schedule .now))) (s .args .report .now) _ _ _ (c .before .before .before .before .before .before .before .before .before .before .before .before .before .before .before .before .before .before .before .if1 .left) (E .checked) (ap (report (s .args .table .now)) (E .end .site)) (w .0) (w .1)
 
 returns-3 : tie.Need-returns-3
 unfolding runOf
 returns-3 c =
     let s = c .before .before .before .before .before .before .before .before .before .before .before .before .before .before in
     let told = c .before .course .given in
-    rest-refused 4450 10 (readyChecks (s .args .table .now) (s .args .schedule .now)) (report (s .args .table .now) (endState (s .args .table .now) (s .args .schedule .now))) (s .args .report .now) (c .before .before .before .before .before .before .before .before .before .before .if1 .left) (c .before .before .before .execute .ensures .refusal (told .0 .0) (told .1))
+    rest-refused 4514 10 (readyChecks (s .args .table .now) (s .args .schedule .now)) (report (s .args .table .now) (endState (s .args .table .now) (s .args .schedule .now))) (s .args .report .now) (c .before .before .before .before .before .before .before .before .before .before .if1 .left) (c .before .before .before .execute .ensures .refusal (told .0 .0) (told .1))
 
 pub run-spec : {M : Type 1} → statement M
 run-spec =

@@ -149,7 +149,7 @@ pub join-requires : tie.Need-join-requires
 join-requires c κs =
     let S = c .before .before .before .before .before .before .pre in
     let range = ranged (c .before .before .before .before .before .before .pre) _ (sym (c .before .before .before .before .action .ensures) ∙ c .before .before .x8 .given .1) in
-    (S .queue-room, omega (arith, range, S .accepted .mutexes-most), actor-small S, S .join-room _)
+    (S .queue-room, omega (arith, range, S .accepted .mutexes-most), actor-small S, S .join-room _, S .depth-room _)
 
 pub next-requires-5 : tie.Need-next-requires-5
 next-requires-5 c κs =
