@@ -9,7 +9,7 @@ use mathlib.Core.Bool.{true, false}
 use mathlib.Core.List.{List, [], _∷_}
 use lib.Dec.{eqb, ltb}
 use borrow.Author.Tests.{eqb-true, eqb-false, ltb-true, ltb-false}
-use Rattle.table.specs.Format.{actorsOf, countOf}
+use Rattle.table.specs.Format.{actorsOf}
 use Rattle.table.specs.Promise.{WellFormed}
 use Rattle.table.proofs.Promise.{promised}
 use Rattle.trace.specs.Machine.{Name}
@@ -18,7 +18,7 @@ use Rattle.trace.proofs.Bools.{which}
 use Rattle.trace.proofs.Run.{first-ready, rest-accepted}
 use Rattle.model.specs.Site.{Site, initial}
 use Rattle.model.specs.Views.{posts}
-use Rattle.model.specs.Step.{nextAction, ready, step}
+use Rattle.model.specs.Step.{nextAction, step}
 use Rattle.model.specs.Pair.{isJoin, postAt}
 use Rattle.model.specs.Schedule.{machine, endState}
 use Rattle.model.specs.Reached.{locksBelow, Reached}

@@ -4,20 +4,19 @@ use Prim.Native.Nat.{ℕ, zero, suc, _+_, _-_, _≤_, _<_}
 use native.Mathlib.Omega.{arith}
 use mathlib.Core.Path.{_≡_, refl, sym, _∙_, ap}
 use mathlib.Core.Logic.{_⊎_, inl, inr, _≢_, _↔_}
-use mathlib.Core.Bool.{Bool, true, false, false≢true, cond}
+use mathlib.Core.Bool.{Bool, true, false, false≢true}
 use mathlib.Core.List.{List, [], _∷_}
 use lib.Dec.{eqb}
-use borrow.Author.Tests.{eqb-true, eqb-false, eq-eqb, ne-eqb}
+use borrow.Author.Tests.{eqb-true, eq-eqb, ne-eqb}
 use Rattle.trace.specs.Order.{has}
-use Rattle.trace.proofs.Bools.{which, contrary, or-cases, or-right}
-use Rattle.model.specs.Site.{Queued, Site, name}
+use Rattle.trace.proofs.Bools.{which, contrary}
+use Rattle.model.specs.Site.{Queued, Site}
 use Rattle.model.specs.Views.{Post, silent, mails, joins, leaves, notes}
 use Rattle.model.specs.Mutex.{join, standing, leave, queueing}
 use Rattle.model.specs.Ready.{bit, howMany}
 use Rattle.model.specs.Pair.{isJoin, postAt}
 use Rattle.model.specs.Reached.{Once, actorsIn, DepthsWithin, locksBelow}
 use Rattle.model.specs.Depths.{depthIn, counted}
-use Rattle.model.proofs.ReportBoundQueues.{has-head}
 
 -- ---- the depth of one actor
 

@@ -17,9 +17,8 @@ use Rattle.trace.specs.Order.{eqName, mem}
 use Rattle.trace.proofs.Bools.{which, contrary, is-false}
 use Rattle.trace.proofs.Names.{eqName-refl, eqName-true}
 use Rattle.trace.proofs.Run.{first-ready, rest-accepted}
-use Rattle.model.specs.Site.{Actor, Comm, unposted, pending, done, Queued, Site, initial}
+use Rattle.model.specs.Site.{Actor, Comm, unposted, pending, done, Site, initial}
 use Rattle.model.specs.Views.{joins, notes, posts}
-use Rattle.model.specs.Ready.{howMany}
 use Rattle.model.specs.Step.{actionAt, nextName, nextAction, ready, step}
 use Rattle.model.specs.Schedule.{machine, endState}
 use Rattle.model.specs.Pair.{isJoin, postAt}

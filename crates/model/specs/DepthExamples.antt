@@ -3,7 +3,7 @@
 -- Assumes nothing: these are definitions.
 use Prim.Native.Nat.{ℕ}
 use mathlib.Core.List.{List, [], _∷_, _++_}
-use lib.ListN.{replicate, drop}
+use lib.ListN.{replicate}
 use Rattle.model.specs.Site.{Queued, name}
 use Rattle.model.specs.Calls.{gives, refuses, independent, dependent}
 use Rattle.model.specs.Claims.{Claim, _⇒_, runIn, run, cell, queue, pair, ends, ran, holds, queued, paired, ended, alike, apart}

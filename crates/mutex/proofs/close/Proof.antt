@@ -2,7 +2,6 @@
 -- Assumes nothing.
 use Prim.Native.Nat.{_-_}
 use native.Mathlib.Omega.{arith}
-use borrow.Author.Needs.{needs}
 use Rattle.mutex.proofs.Closing.{Closing, begins, moves, ends}
 use Rattle.mutex.proofs.close.Statement.{statement}
 use Rattle.mutex.proofs.close.Tie as tie

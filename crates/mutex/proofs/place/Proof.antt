@@ -4,7 +4,6 @@ use Prim.Native.Nat.{ℕ, _+_, _-_, _≤_}
 use mathlib.Core.Path.{_≡_, ap}
 use mathlib.Core.List.{List}
 use native.Mathlib.Omega.{arith}
-use borrow.Author.Needs.{needs}
 use lib.ListN.{take, drop}
 use Rattle.mutex.specs.Parts.{placeOf}
 use Rattle.mutex.proofs.Scan.{rest, rest-begin, place-found, place-passed, place-end}
