@@ -6,7 +6,7 @@ use crate::inputs::mix::Mix;
 use crate::inputs::rng::Rng;
 use crate::inputs::sample::{Script, Shape};
 use tables::layout::{MOST, MOST_ACTIONS};
-use tables::{Kind, action};
+use tables::{Action, Kind, action};
 
 /// Every action is a Lock of one mutex, up to 32 for an actor.
 pub fn alone(rng: &mut Rng) -> (Vec<u8>, Vec<u8>) {
@@ -64,32 +64,37 @@ pub fn nested(rng: &mut Rng) -> (Vec<u8>, Vec<u8>) {
     };
     let mut scripts = vec![Script::default(); actors];
     for script in &mut scripts {
-        let mut actions = Vec::new();
         let looks = rng.once_in(2);
+        let mut actions = Vec::new();
         while actions.len() < count {
             let mutex = any_mutex(rng, &shape);
-            let locks = rng.pick(&[1, 2, 2, 3, count / 2, count / 2]);
-            let unlocks = rng.pick(&[locks - 1, locks, locks, locks, locks + 1]);
-            for _ in 0..locks {
-                actions.push(action::lock(mutex));
-                match rng.below(4) {
-                    0 if looks => actions.push(action::mutex_test(0, &[mutex])),
-                    1 if looks => actions.push(action::mutex_wait(1, &[mutex])),
-                    _ => {}
-                }
-            }
-            for _ in 0..unlocks {
-                actions.push(action::unlock(mutex));
-                if looks && rng.once_in(2) {
-                    actions.push(action::mutex_test(2, &[mutex]));
-                }
-            }
+            routine(rng, &mut actions, mutex, count / 2, looks);
         }
         for &action in &actions[..count] {
             script.push(action);
         }
     }
     run_out(rng, shape, scripts, |_| true)
+}
+
+/// Adds a routine around a mutex, with up to `most` Locks.
+fn routine(rng: &mut Rng, actions: &mut Vec<Action>, mutex: u8, most: usize, looks: bool) {
+    let locks = rng.pick(&[1, 2, 2, 3, most, most]);
+    let unlocks = rng.pick(&[locks - 1, locks, locks, locks, locks + 1]);
+    for _ in 0..locks {
+        actions.push(action::lock(mutex));
+        match rng.below(4) {
+            0 if looks => actions.push(action::mutex_test(0, &[mutex])),
+            1 if looks => actions.push(action::mutex_wait(1, &[mutex])),
+            _ => {}
+        }
+    }
+    for _ in 0..unlocks {
+        actions.push(action::unlock(mutex));
+        if looks && rng.once_in(2) {
+            actions.push(action::mutex_test(2, &[mutex]));
+        }
+    }
 }
 
 fn any_mutex(rng: &mut Rng, shape: &Shape) -> u8 {

@@ -120,6 +120,54 @@ struct Past {
     deepest: u8,
 }
 
+impl Past {
+    /// What it becomes by a Lock or an Unlock at this depth.
+    fn moves(&mut self, deed: Deed, depth: u8) {
+        match deed {
+            Deed::Joins | Deed::Deepens => {
+                self.between = false;
+                self.deepest = self.deepest.max(depth + 1);
+            }
+            Deed::Keeps => self.between = true,
+            Deed::Leaves => {
+                *self = Self {
+                    left: true,
+                    ..Self::default()
+                }
+            }
+            Deed::Misses => {}
+        }
+    }
+}
+
+/// The corner that a Lock or an Unlock of an actor in the queue is, by who is right behind it.
+fn of_queued(
+    deed: Deed,
+    depth: u8,
+    is_owner: bool,
+    behind: Option<&Queued>,
+) -> Option<&'static str> {
+    let deeper = behind.is_some_and(|next| next.depth > 1);
+    let corner = match (deed, is_owner, behind.is_some()) {
+        (Deed::Deepens, true, false) => OWNER_ALONE,
+        (Deed::Deepens, true, true) => OWNER_FOLLOWED,
+        (Deed::Deepens, false, false) => LAST,
+        (Deed::Deepens, false, true) => FOLLOWED,
+        (Deed::Keeps, true, _) if depth > 2 => DEEPER_OWNER,
+        (Deed::Keeps, false, _) if depth > 2 => DEEPER_WAITING,
+        (Deed::Keeps, true, false) => AT_2_ALONE,
+        (Deed::Keeps, true, true) => AT_2_OWNER,
+        (Deed::Keeps, false, false) => AT_2_LAST,
+        (Deed::Keeps, false, true) => AT_2_FOLLOWED,
+        (Deed::Leaves, true, false) => LEAVES_FREE,
+        (Deed::Leaves, true, true) if deeper => LEAVES_OWNER,
+        (Deed::Leaves, false, false) => LEAVES_LAST,
+        (Deed::Leaves, false, true) if deeper => LEAVES_FOLLOWED,
+        _ => return None,
+    };
+    Some(corner)
+}
+
 /// A schedule being stepped, and what it met.
 #[derive(Default)]
 struct Walk {
@@ -151,86 +199,30 @@ impl Walk {
     fn moves(&mut self, queue: &[Queued], mutex: usize, actor: u8, step: &Action) {
         let place = queue.iter().position(|queued| queued.actor == actor);
         let depth = place.map_or(0, |place| queue[place].depth);
-        let (owner, alone) = (place == Some(0), queue.len() == 1);
-        let behind = place.and_then(|place| queue.get(place + 1));
-        let past = &mut self.pasts[mutex][usize::from(actor)];
         let Some((deed, _)) = Deed::of(step, |_| depth) else {
             return;
         };
-        match deed {
-            Deed::Joins => {
-                self.met
-                    .insert(if queue.is_empty() { FREE } else { BEHIND });
-                if past.left && !queue.is_empty() {
-                    self.met.insert(BEHIND_AGAIN);
-                }
-            }
-            Deed::Deepens => {
-                self.met.insert(match (owner, behind) {
-                    (true, None) => OWNER_ALONE,
-                    (true, Some(_)) => OWNER_FOLLOWED,
-                    (false, None) => LAST,
-                    (false, Some(_)) => FOLLOWED,
-                });
-            }
-            Deed::Keeps => {
-                self.met.insert(match (depth, owner, behind) {
-                    (2, true, None) => AT_2_ALONE,
-                    (2, true, Some(_)) => AT_2_OWNER,
-                    (2, false, None) => AT_2_LAST,
-                    (2, false, Some(_)) => AT_2_FOLLOWED,
-                    (_, true, _) => DEEPER_OWNER,
-                    (_, false, _) => DEEPER_WAITING,
-                });
-            }
-            Deed::Leaves => {
-                match (owner, behind) {
-                    (true, None) if alone => self.met.insert(LEAVES_FREE),
-                    (true, Some(next)) if next.depth > 1 => self.met.insert(LEAVES_OWNER),
-                    (false, None) => self.met.insert(LEAVES_LAST),
-                    (false, Some(next)) if next.depth > 1 => self.met.insert(LEAVES_FOLLOWED),
-                    _ => false,
-                };
-                if past.deepest >= 16 {
-                    self.met.insert(LEAVES_16);
-                }
-                if owner {
-                    let next = behind.filter(|_| past.deepest > 1);
-                    self.next[mutex] = next.map(|next| next.actor);
-                }
-            }
-            Deed::Misses => {
-                self.met.insert(match queue.is_empty() {
-                    true => MISSES_FREE,
-                    false => MISSES,
-                });
-                if past.left {
-                    self.met.insert(MISSES_AGAIN);
-                }
-            }
+        let is_owner = place == Some(0);
+        let behind = place.and_then(|place| queue.get(place + 1));
+        let past = &mut self.pasts[mutex][usize::from(actor)];
+        if deed == Deed::Leaves && is_owner {
+            let next = behind.filter(|_| past.deepest > 1);
+            self.next[mutex] = next.map(|next| next.actor);
         }
-        *past = match deed {
-            Deed::Joins => Past {
-                between: false,
-                deepest: 1,
-                ..*past
-            },
-            Deed::Deepens => Past {
-                between: false,
-                deepest: past.deepest.max(depth + 1),
-                ..*past
-            },
-            Deed::Keeps => Past {
-                between: true,
-                ..*past
-            },
-            Deed::Leaves => Past {
-                left: true,
-                between: false,
-                deepest: 0,
-            },
-            Deed::Misses => *past,
+        let others = !queue.is_empty();
+        let after = match deed {
+            Deed::Joins => (past.left && others).then_some(BEHIND_AGAIN),
+            Deed::Leaves => (past.deepest >= 16).then_some(LEAVES_16),
+            Deed::Misses => past.left.then_some(MISSES_AGAIN),
+            Deed::Deepens | Deed::Keeps => None,
         };
+        let here = match deed {
+            Deed::Joins => Some(if others { BEHIND } else { FREE }),
+            Deed::Misses => Some(if others { MISSES } else { MISSES_FREE }),
+            _ => of_queued(deed, depth, is_owner, behind),
+        };
+        past.moves(deed, depth);
+        self.met.extend([after, here].into_iter().flatten());
     }
 
     /// Looks at a test or a wait that was run.
