@@ -112,11 +112,27 @@ static void eight(void)
     queue_is(&all, "765432107654321765432765437654765767", "7867564534231201");
 }
 
+/* Every actor as deep as can be. */
+static void deepest_of_all(const char *locks)
+{
+    const char *scripts[MOST_ACTORS];
+    char digits[ORDER_SCHEDULE_MOST + 1] = {0}, queue[2 * MOST_ACTORS + 1] = {0};
+    for (size_t actor = 0; actor < MOST_ACTORS; actor++) {
+        scripts[actor] = locks;
+        memset(digits + MOST_ACTIONS * actor, (int)('0' + actor), MOST_ACTIONS);
+        queue[2 * actor] = (char)('0' + actor);
+        queue[2 * actor + 1] = '0' + MOST_ACTIONS;
+    }
+    Site all = site(MOST_ACTORS, scripts);
+    queue_is(&all, digits, queue);
+}
+
 static void every_depth(void)
 {
     char locks[MOST_ACTIONS + 1], digits[2 * MOST_ACTIONS + 1];
     memset(locks, 'L', MOST_ACTIONS);
     locks[MOST_ACTIONS] = 0;
+    deepest_of_all(locks);
     const char *const deepest[] = {locks, locks};
     Site two = site(2, deepest);
     memset(digits, '1', MOST_ACTIONS);

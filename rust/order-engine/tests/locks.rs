@@ -53,6 +53,14 @@ fn every_depth() {
 }
 
 #[test]
+fn every_actor_at_the_greatest_depth() {
+    let table = table(&[&[lock(0); MOST_ACTIONS][..]; MOST as usize]);
+    let schedule: Vec<u8> = (0..MOST).cycle().take(256).collect();
+    let deepest: Vec<(u8, u8)> = (0..MOST).map(|actor| (actor, 32)).collect();
+    assert_eq!(queue(&table, &schedule), deepest);
+}
+
+#[test]
 fn a_queue_of_eight_depths() {
     let scripts: Vec<Vec<Action>> = (1..=MOST.into())
         .map(|locks| vec![lock(0); locks])

@@ -78,10 +78,19 @@ fn depth(depth: usize) -> String {
     format!("depth {depth} at the end")
 }
 
+/// An end with this actor as deep as can be.
+fn deepest(actor: u8) -> String {
+    format!("actor {actor} with depth {MOST_ACTIONS} at the end")
+}
+
 /// What a call must have met, and how often.
 pub fn demands(demands: Demands, least: u64) -> Demands {
     let depths: Vec<String> = (1..=MOST_ACTIONS).map(depth).collect();
-    demands.notes(&CORNERS, least).notes(&depths, least)
+    let deepest: Vec<String> = (0..MOST).map(deepest).collect();
+    demands
+        .notes(&CORNERS, least)
+        .notes(&depths, least)
+        .notes(&deepest, least)
 }
 
 /// Notes what an accepted schedule of an accepted table met, each once.
@@ -102,6 +111,10 @@ pub fn note(tally: &mut Tally, table: &[u8], schedule: &[u8]) {
     let depths: BTreeSet<u8> = queues.iter().flatten().map(|queued| queued.depth).collect();
     for found in depths {
         tally.note(&depth(found.into()));
+    }
+    let ends = queues.iter().flatten();
+    for queued in ends.filter(|queued| usize::from(queued.depth) == MOST_ACTIONS) {
+        tally.note(&deepest(queued.actor));
     }
 }
 
