@@ -85,7 +85,7 @@ typedef struct {
 OrderCheck order_check(const uint8_t *table, size_t length);
 
 /* The bytes that order_run wants lent. No report is longer. */
-#define ORDER_REPORT_ROOM 4450
+#define ORDER_REPORT_ROOM 4514
 
 /* What a run answers: the length of the report that was written. */
 typedef struct {
@@ -95,8 +95,9 @@ typedef struct {
 } OrderRun;
 
 /* Runs a schedule, one byte for each entry, from a fresh site and writes the state report of its end into
- * the first bytes of `report`: the actors, their actions, the mailboxes, the mutexes and, last, the journal, the number
- * of its entries in 16 bits and six bytes for each. The bytes after it stay as they were. Refusals, in this order: 10;
+ * the first bytes of `report`: the actors, their actions, the mailboxes, the mutexes, each with the number of actors
+ * queued for it and two bytes for each of them, its number and its depth, and, last, the journal, the number of its
+ * entries in 16 bits and six bytes for each. The bytes after it stay as they were. Refusals, in this order: 10;
  * 1 to 9; 11 to 13 and 21.
  */
 OrderRun order_run(const uint8_t *table, size_t table_length, const uint8_t *schedule, size_t schedule_length,

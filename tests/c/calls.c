@@ -1,6 +1,7 @@
 /* The calls from C: document 01's cases (a) to (j) as far as calls show them, table A's pages, totals that run
- * over, drawn schedules, recordings that do not end together, the pairs that a verdict compares, Notes and the journal,
- * each refusal of each call, and `NULL, 0` for every slice. At a refusal every other field is 0, and what was lent is compared byte for byte.
+ * over, drawn schedules, recordings that do not end together, the pairs that a verdict compares, Notes and the
+ * journal, Locks taken twice, each refusal of each call, and `NULL, 0` for every slice. At a refusal every other field
+ * is 0, and what was lent is compared byte for byte.
  * Usage: calls TABLE, a file with table A. Prints a line for each check that fails and ends with status 1 if
  * any did.
  */
@@ -38,6 +39,7 @@ int main(int count, char **arguments)
     recordings();
     compared();
     journal();
+    locks();
     empty_slices();
     if (failures > 0) {
         printf("calls from C: %d checks failed\n", failures);

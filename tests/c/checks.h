@@ -91,6 +91,7 @@ void verdicts(void);
 void recordings(void);
 void compared(void);
 void journal(void);
+void locks(void);
 void empty_slices(void);
 
 #endif

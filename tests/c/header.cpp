@@ -1,7 +1,8 @@
 // The header as C++: it is accepted, and its constants can be array sizes.
 #include "order.h"
 
-static_assert(ORDER_REPORT_ROOM == 2912 + 2 + 6 * ORDER_SCHEDULE_MOST, "a journal with an entry for each step");
+static_assert(ORDER_REPORT_ROOM == 2912 + 64 + 2 + 6 * ORDER_SCHEDULE_MOST,
+              "a depth for each of eight actors at eight mutexes, a journal with an entry for each step");
 static_assert(ORDER_PAGE_ROOM == 8 * 102, "a line for each of eight actors");
 static_assert(ORDER_ROUTE_ROOM(0) == 0 && ORDER_ROUTE_ROOM(1) == 0, "no exchange");
 static_assert(ORDER_ROUTE_ROOM(4) == 6 && ORDER_ROUTE_ROOM(256) == 32640, "every pair once");

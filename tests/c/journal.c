@@ -42,9 +42,9 @@ static void entries(void)
     static const uint8_t fresh[] = {0, 0, 0, 0, 0};
     static const uint8_t one[] = {1, 0, 0, 0, 0, /* the Send waits, the mutex is free */
                                   1, 0, 1, 1, 1, 2, 3, 4};
-    static const uint8_t all[] = {1, 0, 0, 0, 1, 0, /* the Send waits, actor 0 owns the mutex */
+    static const uint8_t all[] = {1, 0, 0, 0, 1, 0, 1, /* the Send waits, actor 0 owns the mutex with depth 1 */
                                   3, 0, 1, 1, 1, 2, 3, 4, 0, 2, 0, 0, 0, 0, 1, 3, 0, 0, 0, 0};
-    static const uint8_t first[] = {1, 0, 0, 0, 1, 0, 3, 0, 0, 2, 0, 0, 0, 0, 1, 1, 1, 2, 3, 4, 1, 3, 0, 0, 0, 0};
+    static const uint8_t first[] = {1, 0, 0, 0, 1, 0, 1, 3, 0, 0, 2, 0, 0, 0, 0, 1, 1, 1, 2, 3, 4, 1, 3, 0, 0, 0, 0};
     static const size_t rooms[] = {ORDER_REPORT_ROOM, ORDER_REPORT_ROOM + 1};
     for (size_t i = 0; i < 2; i++) {
         ends(after(whole, 0, whole, 0), rooms[i], fresh, sizeof fresh);
@@ -53,8 +53,6 @@ static void entries(void)
         ends(after(other, 7, other, 0), rooms[i], first, sizeof first);
     }
     Lent lent = after(whole, 7, whole, 0);
-    lent.bytes_length = 4449;
-    run_refused(lent, ORDER_REFUSED_REPORT_ROOM, 0);
     lent.bytes_length = 2912;
     run_refused(lent, ORDER_REFUSED_REPORT_ROOM, 0);
     ready_is(after(whole, 1, whole, 0), 3, 2, ORDER_GOING);

@@ -76,7 +76,7 @@ fn more_written_than_lent() {
         engine: |_| Ok([u32::MAX]).into(),
         ..run::CALL
     };
-    assert!(said(&WRONG, &input(&[])).contains("written of 4455 lent"));
+    assert!(said(&WRONG, &input(&[])).contains("written of 4519 lent"));
 }
 
 #[test]

@@ -26,7 +26,7 @@ fn a_view_shows_the_state() {
         journal(&report, &site, &mut met);
     }
     assert!(met.pending > 1_000 && met.done > 1_000 && met.queued > 1_000 && met.owned > 1_000);
-    assert!(met.noted > 1_000);
+    assert!(met.noted > 1_000 && met.deeper > 1_000);
 }
 
 /// How many were seen that are not empty.
@@ -36,6 +36,7 @@ struct Met {
     done: usize,
     queued: usize,
     owned: usize,
+    deeper: usize,
     noted: usize,
 }
 
@@ -92,9 +93,12 @@ fn queues(report: &Report, table: &Table, site: &Site, met: &mut Met) {
     assert_eq!(report.mutexes().count(), table.mutexes());
     for mutex in report.mutexes() {
         let queue = site.mutex(usize::from(mutex.number()));
-        assert!(mutex.actors().eq(queue.iter().copied()));
-        assert_eq!(mutex.owner(), queue.first().copied());
+        let expected: Vec<(u8, u8)> = queue.map(|queued| (queued.actor, queued.depth)).collect();
+        let shown = mutex.queue().map(|queued| (queued.actor, queued.depth));
+        assert!(shown.eq(expected.iter().copied()));
+        assert_eq!(mutex.owner(), mutex.queue().next());
         met.owned += usize::from(mutex.owner().is_some());
+        met.deeper += expected.iter().filter(|&&(_, depth)| depth > 1).count();
     }
 }
 

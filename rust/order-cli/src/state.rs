@@ -170,14 +170,15 @@ impl<'a> State<'a> {
     }
 }
 
-/// Who is queued for the mutex.
+/// Who is queued for the mutex, and how deep each.
 fn queue(mutex: &Mutex) -> String {
-    let mut actors = mutex.actors();
-    let queue = match actors.next() {
+    let mut queue = mutex.queue();
+    let queue = match queue.next() {
         None => "free".to_owned(),
         Some(owner) => {
-            let owned = format!("actor {owner} owns it");
-            let others = actors.map(|actor| format!("then actor {actor}"));
+            let owned = format!("actor {} owns it with depth {}", owner.actor, owner.depth);
+            let others =
+                queue.map(|next| format!("then actor {} with depth {}", next.actor, next.depth));
             joined([owned].into_iter().chain(others))
         }
     };

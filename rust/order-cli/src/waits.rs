@@ -3,7 +3,7 @@
 use crate::posts::stage;
 use crate::table::Table;
 use crate::words::{listed, step};
-use order_engine::report::Stage;
+use order_engine::report::{Queued, Stage};
 use order_engine::{Report, StepName};
 use std::collections::HashSet;
 use tables::Kind;
@@ -54,9 +54,11 @@ fn partner(table: &Table, name: StepName) -> &'static str {
 /// A listed mutex that the actor does not own.
 fn unowned(report: &Report, actor: u8, number: u8) -> String {
     let mutex = report.mutexes().nth(number.into());
-    let queue: Vec<u8> = mutex.map_or_else(Vec::new, |mutex| mutex.actors().collect());
-    match queue.first() {
-        Some(owner) if queue.contains(&actor) => format!("actor {owner} owns mutex {number}"),
-        _ => format!("actor {actor} is not queued for mutex {number}"),
+    let mutex = mutex.filter(|mutex| mutex.queue().any(|queued| queued.actor == actor));
+    match mutex.and_then(|mutex| mutex.owner()) {
+        Some(Queued { actor, depth, .. }) => {
+            format!("actor {actor} owns mutex {number} with depth {depth}")
+        }
+        None => format!("actor {actor} is not queued for mutex {number}"),
     }
 }

@@ -52,7 +52,7 @@ pub use prefix::prefix;
 pub use ready::{Ending, Ready, ready};
 pub use refusal::{Reason, Refusal};
 pub use remainder::{Recording, remainder};
-pub use report::{Actor, Communication, Entry, Journal, Mailbox, Mutex, Report, Stage};
+pub use report::{Actor, Communication, Entry, Journal, Mailbox, Mutex, Queued, Report, Stage};
 pub use route::{route, route_room};
 pub use run::{REPORT_ROOM, run};
 pub use same::{Same, SameVerdict, same};

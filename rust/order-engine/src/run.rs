@@ -16,7 +16,7 @@ unsafe extern "C" {
 }
 
 /// The bytes that [`run`] wants lent. No report is longer.
-pub const REPORT_ROOM: usize = 4_450;
+pub const REPORT_ROOM: usize = 4_514;
 
 /// Steps `schedule` from a fresh site and writes the report of the state it leads to into `buffer`,
 /// which must have at least [`REPORT_ROOM`] bytes. Answers with a view of the report; bytes after it

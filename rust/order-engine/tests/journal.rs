@@ -58,9 +58,8 @@ fn bytes_behind_the_queues() {
     let table = Layout::new(1, 1, &scripts).bytes();
     let mut buffer = [7; REPORT_ROOM];
     let report = run(&table, &[0, 0, 1, 1], &mut buffer).unwrap();
-    let end = [1, 0, 0, 0, 1, 0, 1, 0, 1, 1, 1, 2, 3, 4];
+    let end = [1, 0, 0, 0, 1, 0, 1, 1, 0, 1, 1, 1, 2, 3, 4];
     assert_eq!(report.bytes()[2 * 33 + 4 * 8..], end);
-    assert_eq!(report.mutexes().next().unwrap().owner(), Some(0));
     let length = report.bytes().len();
     assert_eq!(buffer[length..], [7; REPORT_ROOM][length..]);
 }
@@ -145,11 +144,11 @@ fn refusals() {
         assert_eq!(one(&[action]), (Reason::Unused, 8));
     }
     assert_eq!(one(&[note(0), test_any(0, &[0])]), (Reason::Listed, 16));
-    let mut short = [7; 4_449];
+    let mut short = [7; 4_513];
     assert_eq!(
         refusal(run(&table(), &[0, 0], &mut short)),
         (Reason::ReportRoom, 0)
     );
-    assert_eq!(short, [7; 4_449]);
-    assert!(run(&table(), &[0, 0], &mut [7; 4_450]).is_ok());
+    assert_eq!(short, [7; 4_513]);
+    assert!(run(&table(), &[0, 0], &mut [7; 4_514]).is_ok());
 }

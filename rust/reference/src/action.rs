@@ -44,9 +44,9 @@ pub enum Action {
     TestAny { result: u8, actions: List },
     /// The same, once one is done.
     WaitAny { result: u8, actions: List },
-    /// Joins the queue of `mutex`.
+    /// Joins the queue of `mutex`, or adds 1 to its depth there.
     Lock { mutex: u8 },
-    /// Leaves the queue of `mutex`.
+    /// Takes 1 off its depth in the queue of `mutex`, and leaves it at 0.
     Unlock { mutex: u8 },
     /// Writes the first owned place of `mutexes`, or 0, into `result`.
     MutexTest { result: u8, mutexes: List },

@@ -33,14 +33,15 @@
 //! the tables that both are given.
 //!
 //! Stepping follows the same sentences in much the same way: names in a mailbox are written one after
-//! the other and never moved, a mutex's queue is an array and a length, a test goes through its list.
-//! The route pulls each entry to its place in turn, as the proved one does. Decided by another way:
-//! the reader's forms (masks over an action's bytes), an Add's sum (made and found too large, not
-//! compared beforehand), the page (Rust's own formatting), a draw (numbers of 64 bits, so that nothing runs
-//! over before the remainder is taken, and a list of the ready actors), dependence (the
-//! five cases as the documents have them, without a table of codes), the same verdict (normal forms; on
-//! short schedules also a search through all chains), how many pairs are compared (one by one, with no
-//! formula), and where the longer of two recordings is cut (entry by entry, without looking at a length).
+//! the other and never moved, a test goes through its list. The route pulls each entry to its place in
+//! turn, as the proved one does. Decided by another way: the reader's forms (masks over an action's
+//! bytes), an Add's sum (made and found too large, not compared beforehand), a mutex's queue (for each
+//! actor its depth and who is ahead of it, without a list), the page (Rust's own formatting), a draw
+//! (numbers of 64 bits, so that nothing runs over before the remainder is taken, and a list of the ready
+//! actors), dependence (the five cases as the documents have them, without a table of codes), the same
+//! verdict (normal forms; on short schedules also a search through all chains), how many pairs are
+//! compared (one by one, with no formula), and where the longer of two recordings is cut (entry by entry,
+//! without looking at a length).
 //! [`quick`], which is measured and not compared, is made as a Rust program for speed would be.
 
 #![forbid(unsafe_code)]

@@ -38,7 +38,7 @@ reasons! {
     8 Listed;
     /// A byte without a use is not 0.
     9 Unused;
-    /// The report buffer has under 4,450 bytes.
+    /// The report buffer has under 4,514 bytes.
     10 ReportRoom;
     /// An entry of the (first) schedule names no actor.
     11 NoActor;

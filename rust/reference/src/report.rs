@@ -4,7 +4,7 @@ use crate::site::Site;
 use crate::table::Table;
 
 /// No report is longer.
-pub const REPORT_ROOM: usize = 4_450;
+pub const REPORT_ROOM: usize = 4_514;
 
 /// Writes the report of a state and gives its length. Later bytes keep what they hold.
 ///
@@ -33,8 +33,8 @@ pub fn write(table: &Table, site: &Site, buffer: &mut [u8]) -> usize {
     for mutex in 0..table.mutexes() {
         let queue = site.mutex(mutex);
         writer.put([queue.len() as u8]);
-        for &actor in queue {
-            writer.put([actor]);
+        for queued in queue {
+            writer.put([queued.actor, queued.depth]);
         }
     }
     let journal = site.journal();

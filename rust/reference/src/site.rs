@@ -5,7 +5,7 @@ use crate::actor::Actor;
 use crate::communication::{Communication, Stage};
 use crate::journal::{Entry, Journal};
 use crate::mailbox::{Mailbox, Side};
-use crate::mutex::Mutex;
+use crate::mutex::{Mutex, Queued};
 use crate::name::Name;
 use crate::next::Next;
 
@@ -48,7 +48,7 @@ impl Site {
     }
 
     /// The queue of `mutex`, the owner first.
-    pub fn mutex(&self, mutex: usize) -> &[u8] {
+    pub fn mutex(&self, mutex: usize) -> impl ExactSizeIterator<Item = Queued> + use<> {
         self.mutexes[mutex].queue()
     }
 
@@ -92,8 +92,8 @@ impl Site {
                 result,
                 ref actions,
             } => self.pick_up(actor, result, actions, finds),
-            Action::Lock { mutex } => self.mutexes[usize::from(mutex)].join(actor),
-            Action::Unlock { mutex } => self.mutexes[usize::from(mutex)].leave(actor),
+            Action::Lock { mutex } => self.mutexes[usize::from(mutex)].lock(actor),
+            Action::Unlock { mutex } => self.mutexes[usize::from(mutex)].unlock(actor),
             Action::MutexTest { result, .. } | Action::MutexWait { result, .. } => {
                 self.actors[actor].set(result, finds);
             }

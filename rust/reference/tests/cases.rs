@@ -6,9 +6,9 @@ use common::{A, after, refused, report, same_after};
 use reference::{Ending, Ready, pair, ready, route, run, same};
 
 fn run_refused(schedule: &[u8]) -> (u32, u32) {
-    let mut buffer = [7; 4_450];
+    let mut buffer = [7; 4_514];
     let answer = refused(run(&A, schedule, &mut buffer));
-    assert_eq!(buffer, [7; 4_450]);
+    assert_eq!(buffer, [7; 4_514]);
     assert_eq!(refused(ready(&A, schedule)), answer);
     answer
 }

@@ -23,7 +23,7 @@ fn bytes_to_the_letter() {
     assert_eq!(journal(&table, &schedule, 2), written);
     // It stands behind two mailboxes, in one of which a Send waits, and two mutexes, one of them owned.
     let actors_and_actions = 33 * 3 + 8 * 6;
-    let queues = [1, 0, 2, 0, 0, 0, 0, 1, 1];
+    let queues = [1, 0, 2, 0, 0, 0, 0, 1, 1, 1];
     let report = report(&table, &schedule);
     assert_eq!(
         report[actors_and_actions..],
@@ -139,8 +139,8 @@ fn the_room() {
     let table = table(&[&[note(0)]]);
     let mut short = [7; REPORT_ROOM - 1];
     assert_eq!(refused(run(&table, &[0], &mut short)), (10, 0));
-    assert_eq!(short, [7; 4_449]);
-    assert!(run(&table, &[0], &mut [7; 4_450]).is_ok());
+    assert_eq!(short, [7; 4_513]);
+    assert!(run(&table, &[0], &mut [7; 4_514]).is_ok());
 }
 
 /// Number and position of the refusal of one actor with these actions.

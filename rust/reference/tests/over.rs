@@ -113,9 +113,9 @@ fn in_the_place_of_13_and_16() {
     let first = [1, 0, 0, 9];
     let accepted = [1, 0];
     for call in [run, page, quick::page] {
-        let mut lent = [7; 4_450];
+        let mut lent = [7; 4_514];
         assert_eq!(refused(call(&table, &first, &mut lent)), (21, 2));
-        assert_eq!(lent, [7; 4_450]);
+        assert_eq!(lent, [7; 4_514]);
     }
     assert_eq!(refused(ready(&table, &first)), (21, 2));
     for call in [same, quick::same] {

@@ -66,12 +66,12 @@ pub fn wait_any(result: u8, actions: &[u8]) -> Action {
     listing(Kind::WaitAny, result, actions)
 }
 
-/// Joins the queue of `mutex`.
+/// Joins the queue of `mutex`, or adds 1 to its depth there.
 pub const fn lock(mutex: u8) -> Action {
     lone(Kind::Lock, mutex)
 }
 
-/// Leaves the queue of `mutex`.
+/// Takes 1 off its depth in the queue of `mutex`, and leaves it at 0.
 pub const fn unlock(mutex: u8) -> Action {
     lone(Kind::Unlock, mutex)
 }

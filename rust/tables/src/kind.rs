@@ -88,9 +88,9 @@ kinds! {
     5 TestAny "test", Cell, Communications;
     /// Waits for a communication that is done.
     6 WaitAny "wait", Cell, Communications;
-    /// Queues for a mutex.
+    /// Queues for a mutex, or locks it once more.
     7 Lock "lock", Mutex, Nothing;
-    /// Leaves a mutex.
+    /// Undoes a Lock of a mutex.
     8 Unlock "unlock", Mutex, Nothing;
     /// Looks for a mutex that is owned.
     9 MutexTest "mutex-test", Cell, Mutexes;

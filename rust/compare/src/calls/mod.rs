@@ -1,9 +1,10 @@
 //! The calls, a module for each: how its two engines are compared, and what is measured of it. Those that
-//! step schedules share [`totals`] and [`notes`], those that compare two of them [`orders`] and [`compared`],
-//! those that take recordings [`lengths`], those that want a fixed room lent [`room`].
+//! step schedules share [`totals`], [`notes`] and [`locks`], those that compare two of them [`orders`] and
+//! [`compared`], those that take recordings [`lengths`], those that want a fixed room lent [`room`].
 
 pub mod compared;
 pub mod lengths;
+pub mod locks;
 pub mod notes;
 pub mod orders;
 pub mod room;

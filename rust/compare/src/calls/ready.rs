@@ -1,5 +1,6 @@
 //! The ready answer.
 
+use crate::calls::locks::queues;
 use crate::calls::notes::journal;
 use crate::calls::totals;
 use crate::harness::asked::Asked;
@@ -38,7 +39,8 @@ pub const CALL: Call = Call {
             .places(&Reason::OF_FIRST, 2_000)
             .notes(&[FINISHED, STUCK_WAITING, GOING, GOING_WAITING], 5_000)
             .notes(&[STUCK_OVER, STUCK_BOTH, GOING_OVER, GOING_BOTH], 300);
-        journal::demands(totals::demands(demands, &[Reason::Over], 1_000), 100)
+        let demands = totals::demands(demands, &[Reason::Over], 1_000);
+        queues::demands(journal::demands(demands, 100), 30)
     },
 };
 
@@ -69,6 +71,7 @@ fn note(tally: &mut Tally, asked: &Asked) {
     }
     let [table, schedule, _] = &asked.input.read;
     journal::note(tally, table, schedule);
+    queues::note(tally, table, schedule);
     let table = check(table).expect("the table is accepted");
     let walk = Walk::along(&table, schedule);
     let some = |status| (0..table.actors()).any(|actor| walk.status(actor) == status);

@@ -1,8 +1,7 @@
 //! The exchange route. Which chain is taken is free, so that the proved engine's is replayed by the
 //! reference; refusals must agree.
 
-use crate::calls::notes::exchanges;
-use crate::calls::totals;
+use crate::calls::{locks, notes, totals};
 use crate::harness::answer::Answer;
 use crate::harness::asked::Asked;
 use crate::harness::call::Call;
@@ -49,7 +48,8 @@ pub const CALL: Call = Call {
         let refused = |reason| tally.refused(reason);
         let pairs =
             tally.accepted() + refused(Reason::RouteRoom) + refused(Reason::Different);
-        let demands = exchanges::demands(demands, 50);
+        let demands = notes::exchanges::demands(demands, 50);
+        let demands = locks::exchanges::demands(demands, 50);
         totals::demands(demands, &[Reason::Over, Reason::SecondOver], 100)
             .least("pairs of schedules", pairs, 100_000)
             .accepted(25_000)
@@ -144,7 +144,8 @@ fn note(tally: &mut Tally, asked: &Asked) {
     }
     let different = asked.reference.refusal == Reason::Different.number();
     if asked.accepted() || different {
-        exchanges::note(tally, asked.input.slices(), !different);
+        notes::exchanges::note(tally, asked.input.slices(), !different);
+        locks::exchanges::note(tally, asked.input.slices(), !different);
     }
     if different && lent < room(asked.input.read[1].len()) {
         tally.note(SHORT_AND_DIFFERENT);

@@ -13,11 +13,12 @@ use reference::{Table, check};
 
 /// A table and two recordings of any sort: same or different as far as both go, or refused.
 pub fn any(rng: &mut Rng) -> Twins {
-    match rng.below(64) {
+    match rng.below(66) {
         0..7 => Twins::damaged(rng),
         7..14 => Twins::any(rng),
         14..38 => begun(rng).either_way(rng),
         38..63 => with_bad_entry(rng).either_way(rng),
+        63..65 => Twins::locked(rng),
         _ => long(rng).either_way(rng),
     }
 }

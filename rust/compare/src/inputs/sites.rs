@@ -5,6 +5,7 @@ use crate::inputs::deep::{one_mailbox, one_mutex};
 use crate::inputs::digits;
 use crate::inputs::entries::{Fault, Place};
 use crate::inputs::families::{FAMILIES, Family};
+use crate::inputs::locks;
 use crate::inputs::mix::Mix;
 use crate::inputs::notes;
 use crate::inputs::rng::Rng;
@@ -13,7 +14,7 @@ use crate::inputs::steps::suited;
 use crate::inputs::totals;
 
 /// The families, each as often as it shall have its turn.
-pub const SITES: [Family; 18] = [
+pub const SITES: [Family; 21] = [
     contended,
     contended,
     contended,
@@ -26,6 +27,9 @@ pub const SITES: [Family; 18] = [
     idle,
     deep_mailbox,
     deep_mutex,
+    locks_alone,
+    every_queue,
+    nested_locks,
     all_notes,
     notes_of_one,
     of_digits,
@@ -86,6 +90,21 @@ fn deep_mailbox(rng: &mut Rng) -> Vec<u8> {
 /// All are queued for one mutex.
 fn deep_mutex(rng: &mut Rng) -> Vec<u8> {
     one_mutex(rng).0
+}
+
+/// Every action is a Lock of one mutex.
+fn locks_alone(rng: &mut Rng) -> Vec<u8> {
+    locks::alone(rng).0
+}
+
+/// All are queued for every mutex.
+fn every_queue(rng: &mut Rng) -> Vec<u8> {
+    locks::every_queue(rng).0
+}
+
+/// Routines that lock again.
+fn nested_locks(rng: &mut Rng) -> Vec<u8> {
+    locks::nested(rng).0
 }
 
 /// Every action is a Note.

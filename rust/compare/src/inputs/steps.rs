@@ -4,6 +4,7 @@ use crate::inputs::contended::{Size, table};
 use crate::inputs::deep::{one_mailbox, one_mutex};
 use crate::inputs::entries::{Fault, Place, fault, spoilt};
 use crate::inputs::families::FAMILIES;
+use crate::inputs::locks;
 use crate::inputs::mix::Mix;
 use crate::inputs::notes::{every_action, one_actor};
 use crate::inputs::rng::Rng;
@@ -29,8 +30,8 @@ impl Steps {
     /// One of any sort: accepted, refused at an entry, or with a table that is refused.
     pub fn any(rng: &mut Rng) -> Self {
         match rng.below(512) {
-            0..14 => Self::deep(rng),
-            14..256 => Self::accepted(rng),
+            0..28 => Self::deep(rng),
+            28..256 => Self::accepted(rng),
             256..448 => Self::refused(rng),
             448..480 => Self::noise(rng),
             _ => Self::damaged(rng),
@@ -49,9 +50,17 @@ impl Steps {
         }
     }
 
-    /// A queue or the journal filled, and the schedule cut in every second.
+    /// A queue or the journal filled, or locked again, and the schedule cut in every second.
     fn deep(rng: &mut Rng) -> Self {
-        let fills = [one_mailbox, one_mutex, one_mutex, every_action, one_actor];
+        let queues = [one_mailbox, one_mutex, one_mutex];
+        let journal = [every_action, one_actor];
+        let depths = [
+            locks::alone,
+            locks::alone,
+            locks::every_queue,
+            locks::nested,
+        ];
+        let fills = [&queues[..], &journal, &depths].concat();
         let fill = rng.pick(&fills);
         let (table, mut schedule) = fill(rng);
         if rng.once_in(2) {

@@ -4,6 +4,7 @@ use crate::inputs::contended::{Size, table};
 use crate::inputs::entries::{Fault, fault, spoilt};
 use crate::inputs::families::FAMILIES;
 use crate::inputs::interleave::{exchanged, interleaved, twisted};
+use crate::inputs::locks;
 use crate::inputs::notes::{every_action, one_actor};
 use crate::inputs::rng::Rng;
 use crate::inputs::steps::{noise, suited};
@@ -29,9 +30,10 @@ impl Twins {
 
     /// Of any sort: same, different, or refused.
     pub fn any(rng: &mut Rng) -> Self {
-        match rng.below(33) {
+        match rng.below(35) {
             0 => Self::damaged(rng),
             32 => Self::noted(rng),
+            33 | 34 => Self::locked(rng),
             1..6 => Self::refused(rng),
             6..15 => Self::aimed(rng, same),
             15..19 => Self::aimed(rng, interleaved),
@@ -69,6 +71,27 @@ impl Twins {
         let (bytes, first) = make(rng);
         let checked = check(&bytes).expect("the table is right");
         let second = rng.pick(&[neighbours as Second, twisted, same]);
+        let second = second(rng, &checked, &first).unwrap_or_else(|| first.clone());
+        Self {
+            table: bytes,
+            first,
+            second,
+        }
+    }
+
+    /// A table whose actors lock more than once, and two schedules of the same steps: same, or hardly different.
+    pub fn locked(rng: &mut Rng) -> Self {
+        let make = match rng.below(16) {
+            0 => locks::every_queue,
+            1..4 => locks::alone,
+            _ => locks::nested,
+        };
+        let (bytes, mut first) = make(rng);
+        let checked = check(&bytes).expect("the table is right");
+        if rng.once_in(2) {
+            first.truncate(rng.between(0, first.len()));
+        }
+        let second = rng.pick(&[neighbours as Second, twisted, twisted, same, same]);
         let second = second(rng, &checked, &first).unwrap_or_else(|| first.clone());
         Self {
             table: bytes,

@@ -22,8 +22,9 @@ pub static COMMAND: Command = Command {
     about: "\
 Runs a schedule from a fresh site and says how the state stands that it leads to: finished, stuck
 or going; where each actor stands and what its eight cells hold; which Receive has met which Send,
-and the value; what waits in each mailbox; who is queued for each mutex, the owner first; and, where
-the table has Notes, the journal: which Notes ran, the oldest first, and what each wrote.",
+and the value; what waits in each mailbox; who is queued for each mutex, the owner first, and with
+what depth: how many Unlocks it takes to leave; and, where the table has Notes, the journal: which
+Notes ran, the oldest first, and what each wrote.",
     operands: &[TABLE, SCHEDULE],
     options: &[STEPS, REPORT],
     example: Example {

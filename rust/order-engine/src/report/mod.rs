@@ -1,8 +1,10 @@
 //! A state report, seen in its bytes.
 
 mod journal;
+mod mutex;
 
 pub use journal::{Entry, Journal};
+pub use mutex::{Mutex, Queued};
 
 use crate::step::StepName;
 
@@ -80,13 +82,6 @@ pub struct Mailbox<'a> {
     names: &'a [[u8; 2]],
 }
 
-/// A mutex: who is queued for it.
-#[derive(Clone, Copy, PartialEq, Eq, Hash, Debug)]
-pub struct Mutex<'a> {
-    number: u8,
-    actors: &'a [u8],
-}
-
 impl<'a> Report<'a> {
     /// The report that a run of an accepted table wrote.
     pub(crate) fn of_run(table: &[u8], bytes: &'a [u8]) -> Self {
@@ -148,14 +143,14 @@ impl<'a> Report<'a> {
     /// The mutexes, by number.
     pub fn mutexes(&self) -> impl Iterator<Item = Mutex<'a>> + use<'a> {
         let mut rest = self.after_mailboxes();
-        (0..self.mutexes).map(move |number| mutex(number, &mut rest))
+        (0..self.mutexes).map(move |number| Mutex::off(number, &mut rest))
     }
 
     /// The journal.
     pub fn journal(&self) -> Journal<'a> {
         let mut rest = self.after_mailboxes();
         for number in 0..self.mutexes {
-            mutex(number, &mut rest);
+            Mutex::off(number, &mut rest);
         }
         Journal::of(rest)
     }
@@ -189,23 +184,6 @@ impl<'a> Mailbox<'a> {
     }
 }
 
-impl<'a> Mutex<'a> {
-    /// The mutex's number.
-    pub fn number(&self) -> u8 {
-        self.number
-    }
-
-    /// The actors that are queued for it, the owner first.
-    pub fn actors(&self) -> impl ExactSizeIterator<Item = u8> + use<'a> {
-        self.actors.iter().copied()
-    }
-
-    /// The actor that owns it, if one does.
-    pub fn owner(&self) -> Option<u8> {
-        self.actors.first().copied()
-    }
-}
-
 fn stage(record: &[u8; ACTION]) -> Stage {
     let &[stage, actor, action, _, a, b, c, d] = record;
     let value = u32::from_le_bytes([a, b, c, d]);
@@ -229,11 +207,4 @@ fn mailbox<'a>(number: u8, rest: &mut &'a [u8]) -> Mailbox<'a> {
         number,
         names: names.as_chunks().0,
     }
-}
-
-/// Takes a mutex off the front of `rest`.
-fn mutex<'a>(number: u8, rest: &mut &'a [u8]) -> Mutex<'a> {
-    let (actors, after) = rest[1..].split_at(usize::from(rest[0]));
-    *rest = after;
-    Mutex { number, actors }
 }

@@ -22,7 +22,7 @@ pub fn after(table: &[u8], schedule: &[u8]) -> Site {
 
 /// The report of an accepted schedule.
 pub fn report(table: &[u8], schedule: &[u8]) -> Vec<u8> {
-    written(run, 4_450, table, schedule)
+    written(run, 4_514, table, schedule)
 }
 
 /// A call that writes what a schedule leads to.

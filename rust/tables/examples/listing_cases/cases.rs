@@ -1,7 +1,7 @@
 //! The cases, with what documents 01 and 02 ask to be printed.
 
 use crate::case::{Case, File};
-use tables::action::{add, lock, mutex_wait, note, receive, set, wait_any};
+use tables::action::{add, lock, mutex_wait, note, receive, set, unlock, wait_any};
 use tables::layout::{ACTION, LONGEST, MOST, MOST_ACTIONS};
 use tables::{Action, Kind, Layout, TABLE_A};
 
@@ -14,6 +14,7 @@ pub fn cases() -> Vec<Case> {
     cases.extend(ends());
     cases.extend(totals());
     cases.extend(notes());
+    cases.extend(locks());
     cases.extend(unreadable());
     cases
 }
@@ -242,6 +243,27 @@ fn notes() -> Vec<Case> {
         Case::new("notes-begun", table.bytes(), [1, 1], begun),
         refused("notes-refused-7", &[note(0), note(8)], "refused 7 at 16"),
         refused("notes-refused-9", &[note(0), used], "refused 9 at 16"),
+    ]
+}
+
+/// A mutex locked twice: one Unlock leaves the other actor waiting, the second lets it go on.
+fn locks() -> Vec<Case> {
+    let twice = [lock(0), lock(0), unlock(0), unlock(0)];
+    let once = &twice[..3];
+    let next = [lock(0), mutex_wait(0, &[0])];
+    let table = Layout::new(0, 1, &[&twice, &next]).bytes();
+    let missing = Layout::new(0, 1, &[once, &next]).bytes();
+    let whole = ["0 0", "1 0", "0 1", "0 2", "0 3", "1 1", "end finished"];
+    let stuck = ["0 0", "1 0", "0 1", "0 2", "end stuck"];
+    vec![
+        Case::new("locks-twice", table.clone(), [0, 1, 0, 0, 0, 1], whole),
+        Case::new("locks-twice-stuck", missing, [0, 1, 0, 0], stuck),
+        Case::new(
+            "locks-twice-refused-13",
+            table,
+            [0, 1, 0, 0, 1],
+            ["refused 13 at 4"],
+        ),
     ]
 }
 

@@ -4,6 +4,7 @@
 mod rule;
 mod sights;
 
+use crate::calls::locks::queues;
 use crate::calls::notes::journal;
 use crate::calls::room::Room;
 use crate::harness::asked::Asked;
@@ -47,6 +48,7 @@ pub const CALL: Call = Call {
         if asked.accepted() {
             sights::note(tally, asked.input, drawn(asked));
             journal::note(tally, &asked.input.read[0], drawn(asked));
+            queues::note(tally, &asked.input.read[0], drawn(asked));
         }
     },
     demands: |demands, _| {
@@ -56,7 +58,7 @@ pub const CALL: Call = Call {
             .refused(&Reason::OF_TABLE, 200)
             .refused(&[Reason::ScheduleRoom], 2_000);
         let demands = ROOM.demands(demands, &[&Reason::OF_TABLE], 300);
-        sights::demands(journal::demands(demands, 100))
+        sights::demands(queues::demands(journal::demands(demands, 100), 30))
     },
 };
 

@@ -2,6 +2,7 @@
 
 mod sights;
 
+use crate::calls::locks::queues;
 use crate::calls::notes::journal;
 use crate::calls::room::Room;
 use crate::calls::totals;
@@ -44,6 +45,7 @@ pub const CALL: Call = Call {
         if asked.accepted() {
             let [table, schedule, _] = asked.input.slices();
             journal::note(tally, table, schedule);
+            queues::note(tally, table, schedule);
             let length = asked.reference.values[0] as usize;
             sights::note(tally, &asked.theirs.bytes[..length]);
         }
@@ -57,7 +59,8 @@ pub const CALL: Call = Call {
             .places(&Reason::OF_FIRST, 2_000);
         let demands = totals::demands(demands, &[Reason::Over], 1_000);
         let then = [&Reason::OF_TABLE[..], &Reason::OF_FIRST];
-        sights::demands(journal::demands(ROOM.demands(demands, &then, 1_000), 100))
+        let demands = queues::demands(ROOM.demands(demands, &then, 1_000), 30);
+        sights::demands(journal::demands(demands, 100))
     },
 };
 

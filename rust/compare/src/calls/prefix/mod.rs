@@ -3,8 +3,7 @@
 
 mod cut;
 
-use crate::calls::notes::exchanges;
-use crate::calls::{compared, lengths, same, totals};
+use crate::calls::{compared, lengths, locks, notes, same, totals};
 use crate::harness::asked::Asked;
 use crate::harness::call::Call;
 use crate::harness::slots::{
@@ -45,7 +44,8 @@ pub const CALL: Call = Call {
             .refused(&Reason::OF_TABLE, 100)
             .refused(&Reason::OF_FIRST, 1_000)
             .refused(&Reason::OF_SECOND, 1_000);
-        let demands = exchanges::demands(demands, 50);
+        let demands = notes::exchanges::demands(demands, 50);
+        let demands = locks::exchanges::demands(demands, 20);
         let demands = compared::corners::demands(demands, 10);
         cut::demands(lengths::demands(demands, 10))
     },
@@ -65,7 +65,8 @@ fn note(tally: &mut Tally, asked: &Asked) {
     if asked.accepted() {
         let [verdict, pairs, _] = asked.reference.values;
         compared::corners::note(tally, [verdict, pairs], parts(asked.input));
-        exchanges::note(tally, parts(asked.input), verdict == 1);
+        notes::exchanges::note(tally, parts(asked.input), verdict == 1);
+        locks::exchanges::note(tally, parts(asked.input), verdict == 1);
     }
     cut::note(tally, asked);
 }

@@ -1,9 +1,10 @@
 //! The run: the answer and every byte lent.
 
-mod depth;
+mod corners;
 
-use crate::calls::room::Room;
+use crate::calls::locks::queues;
 use crate::calls::notes::journal;
+use crate::calls::room::Room;
 use crate::calls::totals;
 use crate::harness::call::Call;
 use crate::harness::slots::{Buffer, Lent, SCHEDULE, Slots, TABLE};
@@ -41,8 +42,9 @@ pub const CALL: Call = Call {
         });
         if asked.accepted() {
             let [table, schedule, _] = &asked.input.read;
-            depth::note(tally, table, schedule, asked.reference.values[0]);
+            corners::note(tally, table, schedule, asked.reference.values[0]);
             journal::note(tally, table, schedule);
+            queues::note(tally, table, schedule);
         }
     },
     demands: |demands, _| {
@@ -51,9 +53,9 @@ pub const CALL: Call = Call {
             .refused(&Reason::OF_TABLE, 200)
             .refused(&[Reason::ReportRoom], 5_000)
             .places(&Reason::OF_FIRST, 2_000);
-        let demands = depth::demands(totals::demands(demands, &[Reason::Over], 1_000));
+        let demands = corners::demands(totals::demands(demands, &[Reason::Over], 1_000));
         let then = [&Reason::OF_TABLE[..], &Reason::OF_FIRST];
-        journal::demands(ROOM.demands(demands, &then, 1_000), 100)
+        queues::demands(journal::demands(ROOM.demands(demands, &then, 1_000), 100), 30)
     },
 };
 

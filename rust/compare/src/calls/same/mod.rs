@@ -5,8 +5,8 @@
 pub mod differing;
 mod reversed;
 
-use crate::calls::notes::{exchanges, journal};
-use crate::calls::{compared, totals};
+use crate::calls::notes::journal;
+use crate::calls::{compared, locks, notes, totals};
 use crate::harness::asked::Asked;
 use crate::harness::call::Call;
 use crate::harness::slots::{Buffer, FIRST, Lent, SECOND, Slots, TABLE};
@@ -44,7 +44,9 @@ pub const CALL: Call = Call {
         let quarter = tally.accepted() / 4;
         let tenth = tally.noted(DIFFERENT) / 10;
         let demands = journal::demands(demands, 20);
-        let demands = exchanges::demands(demands, 50);
+        let demands = notes::exchanges::demands(demands, 50);
+        let demands = locks::exchanges::demands(demands, 50);
+        let demands = locks::queues::demands(demands, 20);
         let demands = compared::corners::demands(demands, 10);
         let demands = compared::corners::demands_of_lengths(demands, 10);
         totals::demands(demands, &[Reason::Over, Reason::SecondOver], 100)
@@ -133,7 +135,9 @@ fn note(tally: &mut Tally, asked: &Asked) {
     let same = verdict == 1;
     compared::corners::note(tally, [verdict, pairs], asked.input.slices());
     journal::note(tally, table, first);
-    exchanges::note(tally, asked.input.slices(), same);
+    notes::exchanges::note(tally, asked.input.slices(), same);
+    locks::exchanges::note(tally, asked.input.slices(), same);
+    locks::queues::note(tally, table, first);
     tally.note(if same { SAME } else { DIFFERENT });
     if searched(first) {
         tally.note(if same {

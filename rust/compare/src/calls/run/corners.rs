@@ -108,8 +108,10 @@ impl Met {
             let actor = usize::from(entry);
             let step = table.action(actor, site.actor(actor).position);
             if let Action::Unlock { mutex } = step {
-                let queue = site.mutex(usize::from(mutex));
-                self.owner_leaves |= queue.len() == usize::from(MOST) && queue[0] == entry;
+                let mut queue = site.mutex(usize::from(mutex));
+                let full = queue.len() == usize::from(MOST);
+                let owner = queue.next().filter(|owner| owner.depth == 1);
+                self.owner_leaves |= full && owner.is_some_and(|owner| owner.actor == entry);
             }
             let next = site.step(actor, &step);
             assert!(next.is_taken(), "the schedule is accepted");
