@@ -1,4 +1,4 @@
--- Mutex queues: none names an actor twice, each that is named has a depth, and the counts of the actors in one.
+-- Mutex queues: none names an actor twice, and the counts of the actors in one.
 -- Assumes nothing.
 use Prim.Native.Nat.{ℕ, zero, suc, _+_, _-_, _≤_, _<_}
 use native.Mathlib.Omega.{arith}

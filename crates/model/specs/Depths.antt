@@ -1,5 +1,5 @@
--- Depths at the end of every accepted schedule (document 02, W7): what an actor's own Locks and Unlocks of a mutex leave, counted from 0 and never below,
--- and so at most 32. Proved in `proofs/Depths.antt`.
+-- Depths at the end of every accepted schedule (document 02, W7): what an actor's own Locks and Unlocks of a mutex leave, counted from 0 and never below.
+-- Proved in `proofs/Depths.antt`.
 -- Assumes nothing: these are definitions.
 use Prim.Native.Nat.{ℕ, suc, _-_, _<_, _≤_}
 use mathlib.Core.Path.{_≡_}
