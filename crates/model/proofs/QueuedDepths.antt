@@ -18,6 +18,11 @@ use Rattle.model.specs.Pair.{isJoin, postAt}
 use Rattle.model.specs.Reached.{Once, actorsIn, DepthsWithin, locksBelow}
 use Rattle.model.specs.Depths.{depthIn, counted}
 
+-- whoever stands in a queue has a depth of at least 1
+depths-standing : (f : ℕ → ℕ) (a d : ℕ) (q : List Queued) → d ≤ f a → DepthsWithin f q → DepthsWithin f (standing a d q)
+depths-standing f a zero q h d = d
+depths-standing f a (suc n) q h d = (omega arith, h, d)
+
 -- ---- the depth of one actor
 
 depth-absent : (q : List Queued) (a : ℕ) → has (actorsIn q) a ≡ false → depthIn q a ≡ 0
@@ -128,16 +133,12 @@ module _ (f g : ℕ → ℕ) (most : (b : ℕ) → f b ≤ g b) where
       go (inr e) rest = rw e (d .0, omega (arith, d .1, most (x .actor)), rest)
 
 module _ (f : ℕ → ℕ) where
-  depths-standing : (a d : ℕ) (q : List Queued) → d ≤ f a → DepthsWithin f q → DepthsWithin f (standing a d q)
-  depths-standing a zero q h d = d
-  depths-standing a (suc n) q h d = (omega arith, h, d)
-
   pub depths-leave : (a : ℕ) (q : List Queued) → DepthsWithin f q → DepthsWithin f (leave q a)
   depths-leave a [] d = tt
   depths-leave a (x ∷ q) d = go (which (eqb a (x .actor))) (depths-leave a q (d .2))
     where
       go : (eqb a (x .actor) ≡ true) ⊎ (eqb a (x .actor) ≡ false) → DepthsWithin f (leave q a) → DepthsWithin f (leave (x ∷ q) a)
-      go (inl e) rest = rw e (depths-standing a (x .depth - 1) q (omega (arith, d .1, ap f (eqb-true a (x .actor) e))) (d .2))
+      go (inl e) rest = rw e (depths-standing f a (x .depth - 1) q (omega (arith, d .1, ap f (eqb-true a (x .actor) e))) (d .2))
       go (inr e) rest = rw e (d .0, d .1, rest)
 
   -- the depth of one actor, where depths are within their bounds
