@@ -35,6 +35,7 @@ pub mod ReportBoundCounts
 pub mod ReportBoundNames
 pub mod ReportBoundQueues
 pub mod QueuedDepths
+pub mod QueuedOnce
 pub mod ReportBoundMail
 pub mod ReachedQueued
 pub mod ReachedPaired

@@ -43,7 +43,7 @@ mail-action x p (writes-down c e) h = absurd (false≢true (rw e at h))
 pub answers-opposite : (p : Port) → answers (mails (opposite p)) p ≡ true
 answers-opposite p = rw (port-test .same (opposite p))
 
-join-action : (x : Action) (m : ℕ) → Posting x → isJoin (posts x) m ≡ true → x ≡ Lock m
+pub join-action : (x : Action) (m : ℕ) → Posting x → isJoin (posts x) m ≡ true → x ≡ Lock m
 join-action x m (quiet q) h = absurd (false≢true (rw (q .posts-none) at h))
 join-action x m (sends-to n c e) h = absurd (false≢true (rw e at h))
 join-action x m (receives-from n c e) h = absurd (false≢true (rw e at h))

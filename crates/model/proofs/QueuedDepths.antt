@@ -1,22 +1,25 @@
 -- Depths in a mutex's queue: what a Lock and an Unlock make of them, and that each stays from 1 to the number of its actor's Locks so far.
 -- Assumes nothing.
-use Prim.Native.Nat.{ℕ, zero, suc, _+_, _-_, _≤_, _<_}
+use Prim.Native.Nat.{ℕ, zero, suc, _-_, _≤_, _<_}
 use native.Mathlib.Omega.{arith}
 use mathlib.Core.Path.{_≡_, refl, sym, _∙_, ap}
 use mathlib.Core.Logic.{_⊎_, inl, inr, _≢_, _↔_}
-use mathlib.Core.Bool.{Bool, true, false, false≢true}
+use mathlib.Core.Bool.{true, false, false≢true}
 use mathlib.Core.List.{List, [], _∷_}
 use lib.Dec.{eqb}
 use borrow.Author.Tests.{eqb-true, eq-eqb, ne-eqb}
 use Rattle.trace.specs.Order.{has}
 use Rattle.trace.proofs.Bools.{which, contrary}
-use Rattle.model.specs.Site.{Queued, Site}
-use Rattle.model.specs.Views.{Post, silent, mails, joins, leaves, notes}
+use Rattle.model.specs.Site.{Queued, Site, name}
+use Rattle.model.specs.Views.{Post, silent, mails, joins, leaves, notes, posts}
+use Rattle.model.specs.Step.{actionAt}
 use Rattle.model.specs.Mutex.{join, standing, leave, queueing}
-use Rattle.model.specs.Ready.{bit, howMany}
 use Rattle.model.specs.Pair.{isJoin, postAt}
 use Rattle.model.specs.Reached.{Once, actorsIn, DepthsWithin, locksBelow}
 use Rattle.model.specs.Depths.{depthIn, counted}
+use Rattle.model.proofs.ByKind.{posting}
+use Rattle.model.proofs.PairCases.{join-action}
+use Rattle.model.proofs.ReportBoundCounts.{counted-one}
 
 -- whoever stands in a queue has a depth of at least 1
 depths-standing : (f : ℕ → ℕ) (a d : ℕ) (q : List Queued) → d ≤ f a → DepthsWithin f q → DepthsWithin f (standing a d q)
@@ -160,38 +163,7 @@ module _ (f : ℕ → ℕ) where
       go (inl e) rest = rw e (λ h. omega (arith, d .0), λ h. refl)
       go (inr e) rest = rw e rest
 
--- ---- the number of Locks so far
-
-count-last : (f : ℕ → Bool) (n k : ℕ) → howMany f (suc n) k ≡ howMany f n k + bit (f (k + n))
-count-last f zero k = let here : k ≡ k + 0 = omega arith in omega (arith, ap (λ (j : ℕ). bit (f j)) here)
-count-last f (suc n) k =
-    let there : suc k + n ≡ k + suc n = omega arith in
-    omega (arith, count-last f n (suc k), ap (λ (j : ℕ). bit (f j)) there)
-
-pub count-more : (f : ℕ → Bool) (n k : ℕ) → howMany f n k ≤ howMany f (suc n) k
-count-more f n k = omega (arith, count-last f n k)
-
-pub count-next : (f : ℕ → Bool) (n : ℕ) → f n ≡ true → suc (howMany f n 0) ≤ howMany f (suc n) 0
-count-next f n e =
-    let here : 0 + n ≡ n = omega arith in
-    omega (arith, count-last f n 0, ap (λ (j : ℕ). bit (f j)) here, ap bit e)
-
--- one of the tests that are counted holds
-pub counted-one : (f : ℕ → Bool) (n k : ℕ) → 0 < howMany f n k → (j : ℕ) × (k ≤ j) × (j < k + n) × (f j ≡ true)
-counted-one f zero k h = absurd (omega arith)
-counted-one f (suc n) k h = go (which (f k)) (counted-one f n (suc k))
-  where
-    go : (f k ≡ true) ⊎ (f k ≡ false) → (0 < howMany f n (suc k) → (j : ℕ) × (suc k ≤ j) × (j < suc k + n) × (f j ≡ true))
-        → (j : ℕ) × (k ≤ j) × (j < k + suc n) × (f j ≡ true)
-    go (inl e) rest = (k, omega arith, omega arith, e)
-    go (inr e) rest = let r = rest (omega (arith, ap bit e)) in (r .0, omega (arith, r .1), omega (arith, r .2), r .3)
-
-joins-mutex : (p : Post) (m : ℕ) → isJoin p m ≡ true → p ≡ joins m
-joins-mutex silent m h = absurd (false≢true h)
-joins-mutex (mails port) m h = absurd (false≢true h)
-joins-mutex (joins n) m h = ap joins (eqb-true n m h)
-joins-mutex (leaves n) m h = absurd (false≢true h)
-joins-mutex notes m h = absurd (false≢true h)
+-- ---- who is queued has locked
 
 -- a Lock that an actor has run
 abbrev pub Locked : List ℕ → Site → ℕ → ℕ → Type 0
@@ -203,4 +175,4 @@ pub queued-locked : (table : List ℕ) (s : Site) (m a : ℕ) (q : List Queued) 
 queued-locked table s m a q d h =
     let above : 0 < depthIn q a = depth-queued (locksBelow table s m) q a d .0 h in
     let k = counted-one (λ j. isJoin (postAt table a j) m) (s .actor a .position) 0 (omega (arith, depth-most (locksBelow table s m) q a d)) in
-    (k .0, omega (arith, k .2), joins-mutex (postAt table a (k .0)) m (k .3))
+    (k .0, omega (arith, k .2), ap posts (join-action (actionAt table (name a (k .0))) m (posting (actionAt table (name a (k .0)))) (k .3)))

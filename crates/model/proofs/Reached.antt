@@ -25,8 +25,9 @@ use Rattle.model.specs.Pair.{isJoin, postAt}
 use Rattle.model.specs.Reached.{isPosted, MailRight, DepthsWithin, locksBelow, notedIn, Reached}
 use Rattle.model.proofs.Checks.{ready-parts}
 use Rattle.model.proofs.Invariant.{Inv, own-position, others-record, position-rises}
-use Rattle.model.proofs.QueuedDepths.{depths-more, depths-join, depths-leave, count-more, count-next}
-use Rattle.model.proofs.ReportBoundQueues.{queueing-keeps, once-queueing}
+use Rattle.model.proofs.QueuedDepths.{depths-more, depths-join, depths-leave}
+use Rattle.model.proofs.QueuedOnce.{queueing-keeps, once-queueing}
+use Rattle.model.proofs.ReportBoundCounts.{count-more, count-next}
 use Rattle.model.proofs.ReachedQueued.{pending-posted}
 use Rattle.model.proofs.ReachedMail.{receive-sends-zero, mailing-right, own-posted, others-posted}
 use Rattle.model.proofs.ReachedNoted.{noting-members, noting-keeps, noting-adds, noting-once}

@@ -2,7 +2,7 @@
 -- Assumes nothing.
 use Prim.Native.Nat.{ℕ, zero, suc, _+_, _*_, _≤_, _<_}
 use native.Mathlib.Omega.{arith}
-use mathlib.Core.Path.{_≡_, refl}
+use mathlib.Core.Path.{_≡_, refl, ap}
 use mathlib.Core.Logic.{_⊎_, inl, inr, _≢_}
 use mathlib.Core.Bool.{Bool, true, false}
 use mathlib.Core.List.{List}
@@ -45,6 +45,31 @@ length-parts f (suc n) k = omega (arith, length-append (f k) (parts f n (suc k))
 pub howMany-most : (f : ℕ → Bool) (n k : ℕ) → howMany f n k ≤ n
 howMany-most f zero k = omega arith
 howMany-most f (suc n) k = omega (arith, one-at-most (f k), howMany-most f n (suc k))
+
+-- one test more
+count-last : (f : ℕ → Bool) (n k : ℕ) → howMany f (suc n) k ≡ howMany f n k + bit (f (k + n))
+count-last f zero k = let here : k ≡ k + 0 = omega arith in omega (arith, ap (λ (j : ℕ). bit (f j)) here)
+count-last f (suc n) k =
+    let there : suc k + n ≡ k + suc n = omega arith in
+    omega (arith, count-last f n (suc k), ap (λ (j : ℕ). bit (f j)) there)
+
+pub count-more : (f : ℕ → Bool) (n k : ℕ) → howMany f n k ≤ howMany f (suc n) k
+count-more f n k = omega (arith, count-last f n k)
+
+pub count-next : (f : ℕ → Bool) (n : ℕ) → f n ≡ true → suc (howMany f n 0) ≤ howMany f (suc n) 0
+count-next f n e =
+    let here : 0 + n ≡ n = omega arith in
+    omega (arith, count-last f n 0, ap (λ (j : ℕ). bit (f j)) here, ap bit e)
+
+-- one of the tests that are counted holds
+pub counted-one : (f : ℕ → Bool) (n k : ℕ) → 0 < howMany f n k → (j : ℕ) × (k ≤ j) × (j < k + n) × (f j ≡ true)
+counted-one f zero k h = absurd (omega arith)
+counted-one f (suc n) k h = go (which (f k)) (counted-one f n (suc k))
+  where
+    go : (f k ≡ true) ⊎ (f k ≡ false) → (0 < howMany f n (suc k) → (j : ℕ) × (suc k ≤ j) × (j < suc k + n) × (f j ≡ true))
+        → (j : ℕ) × (k ≤ j) × (j < k + suc n) × (f j ≡ true)
+    go (inl e) rest = (k, omega arith, omega arith, e)
+    go (inr e) rest = let r = rest (omega (arith, ap bit e)) in (r .0, omega (arith, r .1), omega (arith, r .2), r .3)
 
 -- a number that passes the test
 pub some-of : (f : ℕ → Bool) (n k j : ℕ) → k ≤ j → j < k + n → f j ≡ true → some f n k ≡ true

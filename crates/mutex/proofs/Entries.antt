@@ -17,40 +17,32 @@ use Rattle.model.proofs.QueuedDepths.{join-own}
 use Rattle.state.specs.State.{queuedOf}
 use Rattle.mutex.specs.Parts.{placeOf}
 
--- the entries that the bytes are
-abbrev pub entries : List ℕ → List Queued
-entries l = map queuedOf l
+-- the queue that the bytes hold
+abbrev queueOf : List ℕ → List Queued
+queueOf l = map queuedOf l
 
-entry : (a b d : ℕ) → b % 8 ≡ a → b / 8 + 1 ≡ d → record { actor = a; depth = d } ≡ queuedOf b
-entry a b d e f = let who : a ≡ b % 8 = sym e in let deep : d ≡ b / 8 + 1 = sym f in λ i. record { actor = who i; depth = deep i }
-
-pub place-most : (l : List ℕ) (a : ℕ) → placeOf l a ≤ length l
-place-most [] a = omega arith
-place-most (b ∷ l) a = go (which (eqb a (b % 8))) (place-most l a)
-  where
-    go : (eqb a (b % 8) ≡ true) ⊎ (eqb a (b % 8) ≡ false) → placeOf l a ≤ length l → placeOf (b ∷ l) a ≤ length (b ∷ l)
-    go (inl e) rest = rw e (omega arith)
-    go (inr e) rest = rw e (omega arith)
+entry : (a b d : ℕ) → a ≡ b % 8 → d ≡ b / 8 + 1 → record { actor = a; depth = d } ≡ queuedOf b
+entry a b d who deep i = record { actor = who i; depth = deep i }
 
 -- an actor that is not queued joins the end
-pub join-new : (l : List ℕ) (a : ℕ) → a < 8 → length l ≤ placeOf l a → join (entries l) a ≡ entries (l ++ (a ∷ []))
+pub join-new : (l : List ℕ) (a : ℕ) → a < 8 → length l ≤ placeOf l a → join (queueOf l) a ≡ queueOf (l ++ (a ∷ []))
 join-new [] a small h = ap {B = List Queued} (λ x. x ∷ []) (entry a a 1 (omega arith) (omega arith))
 join-new (b ∷ l) a small h = go (which (eqb a (b % 8))) (join-new l a small)
   where
-    go : (eqb a (b % 8) ≡ true) ⊎ (eqb a (b % 8) ≡ false) → (length l ≤ placeOf l a → join (entries l) a ≡ entries (l ++ (a ∷ [])))
-        → join (entries (b ∷ l)) a ≡ entries ((b ∷ l) ++ (a ∷ []))
+    go : (eqb a (b % 8) ≡ true) ⊎ (eqb a (b % 8) ≡ false) → (length l ≤ placeOf l a → join (queueOf l) a ≡ queueOf (l ++ (a ∷ [])))
+        → join (queueOf (b ∷ l)) a ≡ queueOf ((b ∷ l) ++ (a ∷ []))
     go (inl e) rest = let none : length (b ∷ l) ≤ 0 = rw e at h in absurd (omega arith)
     go (inr e) rest =
         let further : length (b ∷ l) ≤ suc (placeOf l a) = rw e at h in
         rw e (ap {B = List Queued} (λ r. queuedOf b ∷ r) (rest (omega arith)))
 
 -- one that is not queued leaves nothing
-pub leave-none : (l : List ℕ) (a : ℕ) → length l ≤ placeOf l a → leave (entries l) a ≡ entries l
+pub leave-none : (l : List ℕ) (a : ℕ) → length l ≤ placeOf l a → leave (queueOf l) a ≡ queueOf l
 leave-none [] a h = refl
 leave-none (b ∷ l) a h = go (which (eqb a (b % 8))) (leave-none l a)
   where
-    go : (eqb a (b % 8) ≡ true) ⊎ (eqb a (b % 8) ≡ false) → (length l ≤ placeOf l a → leave (entries l) a ≡ entries l)
-        → leave (entries (b ∷ l)) a ≡ entries (b ∷ l)
+    go : (eqb a (b % 8) ≡ true) ⊎ (eqb a (b % 8) ≡ false) → (length l ≤ placeOf l a → leave (queueOf l) a ≡ queueOf l)
+        → leave (queueOf (b ∷ l)) a ≡ queueOf (b ∷ l)
     go (inl e) rest = let none : length (b ∷ l) ≤ 0 = rw e at h in absurd (omega arith)
     go (inr e) rest =
         let further : length (b ∷ l) ≤ suc (placeOf l a) = rw e at h in
@@ -61,22 +53,22 @@ abbrev pub found : List ℕ → ℕ → ℕ
 found l a = getD l (placeOf l a) 0
 
 -- one that is queued: a Lock adds 8 to its byte
-pub join-deeper : (l : List ℕ) (a : ℕ) → placeOf l a < length l → join (entries l) a ≡ entries (set l (placeOf l a) (found l a + 8))
+pub join-deeper : (l : List ℕ) (a : ℕ) → placeOf l a < length l → join (queueOf l) a ≡ queueOf (set l (placeOf l a) (found l a + 8))
 join-deeper [] a h = absurd (omega arith)
 join-deeper (b ∷ l) a h = go (which (eqb a (b % 8))) (join-deeper l a)
   where
-    go : (eqb a (b % 8) ≡ true) ⊎ (eqb a (b % 8) ≡ false) → (placeOf l a < length l → join (entries l) a ≡ entries (set l (placeOf l a) (found l a + 8)))
-        → join (entries (b ∷ l)) a ≡ entries (set (b ∷ l) (placeOf (b ∷ l) a) (found (b ∷ l) a + 8))
+    go : (eqb a (b % 8) ≡ true) ⊎ (eqb a (b % 8) ≡ false) → (placeOf l a < length l → join (queueOf l) a ≡ queueOf (set l (placeOf l a) (found l a + 8)))
+        → join (queueOf (b ∷ l)) a ≡ queueOf (set (b ∷ l) (placeOf (b ∷ l) a) (found (b ∷ l) a + 8))
     go (inl e) rest =
         let mine : a ≡ b % 8 = eqb-true a (b % 8) e in
-        rw e (ap {B = List Queued} (λ x. x ∷ entries l) (entry a (b + 8) (suc (b / 8 + 1)) (omega arith) (omega arith)))
+        rw e (ap {B = List Queued} (λ x. x ∷ queueOf l) (entry a (b + 8) (suc (b / 8 + 1)) (omega arith) (omega arith)))
     go (inr e) rest =
         let further : suc (placeOf l a) < length (b ∷ l) = rw e at h in
         rw e (ap {B = List Queued} (λ r. queuedOf b ∷ r) (rest (omega arith)))
 
 -- an Unlock takes 8 off, where there are
 pub leave-shallower : (l : List ℕ) (a : ℕ) → placeOf l a < length l → 8 ≤ found l a
-    → leave (entries l) a ≡ entries (set l (placeOf l a) (found l a - 8))
+    → leave (queueOf l) a ≡ queueOf (set l (placeOf l a) (found l a - 8))
 leave-shallower [] a h deep = absurd (omega arith)
 leave-shallower (b ∷ l) a h deep = go (which (eqb a (b % 8))) (leave-shallower l a)
   where
@@ -84,14 +76,14 @@ leave-shallower (b ∷ l) a h deep = go (which (eqb a (b % 8))) (leave-shallower
     one-less d up q = ap (λ (k : ℕ). standing a k q) up ∙ ap {B = List Queued} (λ (k : ℕ). record { actor = a; depth = k } ∷ q) (sym up)
 
     go : (eqb a (b % 8) ≡ true) ⊎ (eqb a (b % 8) ≡ false)
-        → (placeOf l a < length l → 8 ≤ found l a → leave (entries l) a ≡ entries (set l (placeOf l a) (found l a - 8)))
-        → leave (entries (b ∷ l)) a ≡ entries (set (b ∷ l) (placeOf (b ∷ l) a) (found (b ∷ l) a - 8))
+        → (placeOf l a < length l → 8 ≤ found l a → leave (queueOf l) a ≡ queueOf (set l (placeOf l a) (found l a - 8)))
+        → leave (queueOf (b ∷ l)) a ≡ queueOf (set (b ∷ l) (placeOf (b ∷ l) a) (found (b ∷ l) a - 8))
     go (inl e) rest =
         let mine : a ≡ b % 8 = eqb-true a (b % 8) e in
         let more : 8 ≤ b = rw e at deep in
         rw e
-        (one-less (b / 8 + 1 - 1) (omega arith) (entries l)
-        ∙ ap {B = List Queued} (λ x. x ∷ entries l) (entry a (b - 8) (b / 8 + 1 - 1) (omega arith) (omega arith)))
+        (one-less (b / 8 + 1 - 1) (omega arith) (queueOf l)
+        ∙ ap {B = List Queued} (λ x. x ∷ queueOf l) (entry a (b - 8) (b / 8 + 1 - 1) (omega arith) (omega arith)))
     go (inr e) rest =
         let further : suc (placeOf l a) < length (b ∷ l) = rw e at h in
         let more : 8 ≤ found l a = rw e at deep in
@@ -99,32 +91,32 @@ leave-shallower (b ∷ l) a h deep = go (which (eqb a (b % 8))) (leave-shallower
 
 -- where there are none the entry goes
 pub leave-last : (l : List ℕ) (a : ℕ) → placeOf l a < length l → found l a < 8
-    → leave (entries l) a ≡ entries (take (placeOf l a) l ++ drop (suc (placeOf l a)) l)
+    → leave (queueOf l) a ≡ queueOf (take (placeOf l a) l ++ drop (suc (placeOf l a)) l)
 leave-last [] a h deep = absurd (omega arith)
 leave-last (b ∷ l) a h deep = go (which (eqb a (b % 8))) (leave-last l a)
   where
     go : (eqb a (b % 8) ≡ true) ⊎ (eqb a (b % 8) ≡ false)
-        → (placeOf l a < length l → found l a < 8 → leave (entries l) a ≡ entries (take (placeOf l a) l ++ drop (suc (placeOf l a)) l))
-        → leave (entries (b ∷ l)) a ≡ entries (take (placeOf (b ∷ l) a) (b ∷ l) ++ drop (suc (placeOf (b ∷ l) a)) (b ∷ l))
+        → (placeOf l a < length l → found l a < 8 → leave (queueOf l) a ≡ queueOf (take (placeOf l a) l ++ drop (suc (placeOf l a)) l))
+        → leave (queueOf (b ∷ l)) a ≡ queueOf (take (placeOf (b ∷ l) a) (b ∷ l) ++ drop (suc (placeOf (b ∷ l) a)) (b ∷ l))
     go (inl e) rest =
         let less : b < 8 = rw e at deep in
         let gone : b / 8 + 1 - 1 ≡ 0 = omega arith in
-        rw e (ap (λ (d : ℕ). standing a d (entries l)) gone)
+        rw e (ap (λ (d : ℕ). standing a d (queueOf l)) gone)
     go (inr e) rest =
         let further : suc (placeOf l a) < length (b ∷ l) = rw e at h in
         let less : found l a < 8 = rw e at deep in
         rw e (ap {B = List Queued} (λ r. queuedOf b ∷ r) (rest (omega arith) less))
 
 -- the byte is the actor's depth
-found-depth : (l : List ℕ) (a : ℕ) → placeOf l a < length l → depthIn (entries l) a ≡ found l a / 8 + 1
+found-depth : (l : List ℕ) (a : ℕ) → placeOf l a < length l → depthIn (queueOf l) a ≡ found l a / 8 + 1
 found-depth [] a h = absurd (omega arith)
 found-depth (b ∷ l) a h = go (which (eqb a (b % 8))) (found-depth l a)
   where
-    go : (eqb a (b % 8) ≡ true) ⊎ (eqb a (b % 8) ≡ false) → (placeOf l a < length l → depthIn (entries l) a ≡ found l a / 8 + 1)
-        → depthIn (entries (b ∷ l)) a ≡ found (b ∷ l) a / 8 + 1
+    go : (eqb a (b % 8) ≡ true) ⊎ (eqb a (b % 8) ≡ false) → (placeOf l a < length l → depthIn (queueOf l) a ≡ found l a / 8 + 1)
+        → depthIn (queueOf (b ∷ l)) a ≡ found (b ∷ l) a / 8 + 1
     go (inl e) rest = rw e
     go (inr e) rest = let further : suc (placeOf l a) < length (b ∷ l) = rw e at h in rw e (rest (omega arith))
 
 -- where the depth after a Lock is at most 32, there is room for 8 more
-pub deeper-room : (l : List ℕ) (a : ℕ) → placeOf l a < length l → depthIn (join (entries l) a) a ≤ 32 → found l a + 8 < 256
-deeper-room l a h most = omega (arith, join-own (entries l) a, found-depth l a h)
+pub deeper-room : (l : List ℕ) (a : ℕ) → placeOf l a < length l → depthIn (join (queueOf l) a) a ≤ 32 → found l a + 8 < 256
+deeper-room l a h most = omega (arith, join-own (queueOf l) a, found-depth l a h)

@@ -3,5 +3,5 @@ pub mod Scan
 pub mod Entries
 pub mod Queues
 pub mod Owning
-pub mod Closing
+pub mod MovingUp
 pub mod Steps

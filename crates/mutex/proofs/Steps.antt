@@ -12,7 +12,7 @@ use Rattle.model.specs.Site.{Queued, upd}
 use Rattle.model.specs.Mutex.{join, leave}
 use Rattle.model.specs.Depths.{depthIn}
 use Rattle.state.specs.State.{queuedOf, sizeIn, entriesIn, queuesOf, QueueRoom}
-use Rattle.mutex.specs.Parts.{placeOf, Closed}
+use Rattle.mutex.specs.Parts.{placeOf, MovedUp}
 use Rattle.writing.proofs.Stored.{stored}
 use Rattle.model.proofs.Upd.{upd-self}
 use Rattle.model.proofs.Ports.{number-test}
@@ -81,7 +81,7 @@ module _ (queues : List ℕ) (m a : ℕ) (room : QueueRoom queues) (known : m < 
         in-bytes : placeOf bytes a < length bytes
         in-bytes = omega (arith, bytes-length)
 
-        pub here-found : getD queues (at + i) 0 ≡ found bytes a
+        here-found : getD queues (at + i) 0 ≡ found bytes a
         here-found =
             sym
             (ap (λ (k : ℕ). getD bytes k 0) (sym place)
@@ -117,7 +117,7 @@ module _ (queues : List ℕ) (m a : ℕ) (room : QueueRoom queues) (known : m < 
             (rewritten i v queued)
 
         -- the last Lock is undone: the entries before stay, and those behind move up
-        pub leaves : getD queues (at + i) 0 < 8 → (after : List ℕ) → Closed queues after (at + i) (n - 1 - i)
+        pub leaves : getD queues (at + i) 0 < 8 → (after : List ℕ) → MovedUp queues after (at + i) (n - 1 - i)
             → Becomes queues (set after (9 * m) (n - 1)) m (leave (queuesOf queues m) a)
         leaves last after c =
             let short : n ≤ 8 = omega (arith, room .bounded m) in

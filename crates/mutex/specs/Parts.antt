@@ -13,7 +13,7 @@ placeOf [] a = 0
 placeOf (b ∷ l) a = cond (eqb a (b % 8)) 0 (suc (placeOf l a))
 
 -- the n bytes behind `from` have moved up by one; those before it and after the n are as they were
-pub record Closed (queues after : List ℕ) (from n : ℕ) : Type 0 where
+pub record MovedUp (queues after : List ℕ) (from n : ℕ) : Type 0 where
   pub long : length after ≡ 72
   pub before : take from after ≡ take from queues
   pub moved : take n (drop from after) ≡ take n (drop (from + 1) queues)

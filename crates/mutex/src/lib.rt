@@ -7,7 +7,7 @@ ghost use Rattle.model.specs.Site.{upd};
 ghost use Rattle.model.specs.Mutex.{owns, join as joined, leave as left};
 ghost use Rattle.model.specs.Depths.{depthIn};
 ghost use Rattle.state.specs.State.{queuesOf, QueueRoom};
-ghost use Rattle.mutex.specs.Parts.{placeOf, Closed};
+ghost use Rattle.mutex.specs.Parts.{placeOf, MovedUp};
 use table::bytes;
 
 // Lock: a queued actor's depth rises by 1; an actor that is not queued joins the end, with depth 1.
@@ -51,7 +51,7 @@ pub fn leave(queues: &mut [u8; 72], m: usize, a: usize)
         queues[at + i] = b - 8;
         return;
     }
-    close(queues, at + i, n - 1 - i);
+    move_up(queues, at + i, n - 1 - i);
     queues[size] = (n - 1) as u8;
 }
 
@@ -85,9 +85,9 @@ fn place(queues: &[u8; 72], at: usize, n: usize, actor: u8) -> usize
 }
 
 // The n bytes behind `from` move up by one.
-fn close(queues: &mut [u8; 72], from: usize, n: usize)
+fn move_up(queues: &mut [u8; 72], from: usize, n: usize)
     requires { ⌜ (length (now queues) ≡ 72) × (from + n < 72) ⌝ }
-    ensures { λ _. ⌜ Closed (now (queues .entry)) (now (queues .exit)) from n ⌝ }
+    ensures { λ _. ⌜ MovedUp (now (queues .entry)) (now (queues .exit)) from n ⌝ }
 {
     let mut i = 0;
     while i < n {

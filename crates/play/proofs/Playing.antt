@@ -22,7 +22,8 @@ use Rattle.model.specs.Pair.{isJoin, postAt}
 use Rattle.model.specs.Depths.{depthIn}
 use Rattle.model.specs.Schedule.{machine}
 use Rattle.model.specs.Reached.{actorsIn, locksBelow, Reached}
-use Rattle.model.proofs.ReportBoundQueues.{once-count, once-join, join-members}
+use Rattle.model.proofs.ReportBoundQueues.{once-count}
+use Rattle.model.proofs.QueuedOnce.{once-join, join-members}
 use Rattle.model.proofs.QueuedDepths.{join-own, depth-most, queued-locked}
 use Rattle.model.proofs.ReportBoundCounts.{howMany-most}
 use Rattle.model.proofs.ReportBoundLengths.{stepped-actor}

@@ -60,17 +60,17 @@ returns-2 c =
     (c .before .before .if1 .left)
     (c .if2 .taken)
 
-add-close : tie.Need-add-close
-add-close c = search needs
+add-move-up : tie.Need-add-move-up
+add-move-up c = search needs
 
-sub-close : tie.Need-sub-close
-sub-close c = search needs
+sub-move-up : tie.Need-sub-move-up
+sub-move-up c = search needs
 
-sub-close-2 : tie.Need-sub-close-2
-sub-close-2 c = search needs
+sub-move-up-2 : tie.Need-sub-move-up-2
+sub-move-up-2 c = search needs
 
-close-requires : tie.Need-close-requires
-close-requires c κs =
+move-up-requires : tie.Need-move-up-requires
+move-up-requires c κs =
     let s = c .before .before .before .before .before .before .before .before in
     (s .pre .0 .long, omega (arith, s .pre .0 .bounded (s .args .m), c .before .before .before .before .before .before .wide .ensures .0))
 
@@ -92,8 +92,8 @@ returns-3 c =
     leaves (x .queues .now) (x .m) (x .a) (s .pre .0) (s .pre .1) (n .result) (n .ensures .0) (i .result) (i .ensures)
     (c .before .before .before .before .if1 .left)
     (c .before .before .if2 .left)
-    (c .close .last .0)
-    (c .close .ensures)
+    (c .move-up .last .0)
+    (c .move-up .ensures)
 
 pub leave-spec : {M : Type 1} → statement M
 leave-spec =
@@ -111,10 +111,10 @@ leave-spec =
     add-queues
     element-write-queues
     returns-2
-    add-close
-    sub-close
-    sub-close-2
-    close-requires
+    add-move-up
+    sub-move-up
+    sub-move-up-2
+    move-up-requires
     sub-queues
     cast-queues
     element-write-queues-2

@@ -1,13 +1,13 @@
--- `mutex::close` meets its contract. The loop's invariant is `Closing`: the first i of the bytes behind `from` have moved up.
+-- `mutex::move_up` meets its contract. The loop's invariant is `MovingUp`: the first i of the bytes behind `from` have moved up.
 -- Assumes nothing.
 use Prim.Native.Nat.{_-_}
 use native.Mathlib.Omega.{arith}
-use Rattle.mutex.proofs.Closing.{Closing, begins, moves, ends}
-use Rattle.mutex.proofs.close.Statement.{statement}
-use Rattle.mutex.proofs.close.Tie as tie
+use Rattle.mutex.proofs.MovingUp.{MovingUp, begins, moves, ends}
+use Rattle.mutex.proofs.move_up.Statement.{statement}
+use Rattle.mutex.proofs.move_up.Tie as tie
 
 abbrev Inv-loop : tie.InvT-loop
-Inv-loop queues₀ from n i₀ queues i = Closing queues₀ queues from n i
+Inv-loop queues₀ from n i₀ queues i = MovingUp queues₀ queues from n i
 
 abbrev μ-loop : tie.MeasureT-loop
 μ-loop queues₀ from n i₀ queues i = n - i
@@ -49,8 +49,8 @@ returns c =
     let turn = c .before .loop in
     ends (x .queues .now) (turn .queues) (x .from) (x .n) (turn .i) (turn .inv) (c .loop-test .left)
 
-pub close-spec : {M : Type 1} → statement M
-close-spec =
+pub move-up-spec : {M : Type 1} → statement M
+move-up-spec =
     tie.close
     (tie.spec
     Inv-loop
