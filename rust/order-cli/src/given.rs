@@ -1,55 +1,38 @@
-//! What was given on the command line after a sub-command's name.
+//! What was given to a sub-command: each operand that it declares once, and some of its options.
 
 use crate::answer::Failure;
-use crate::files;
+use crate::arguments::{Argument, TEXT, Word, wrong};
+use crate::files::are_one;
 use crate::operand::{Choice, Operand, Sort};
-use crate::schedule::Schedule;
+use crate::refusals::exchanged;
+use crate::shown::shown;
+use crate::source::{ENOUGH, Source};
 use order_engine::StepName;
-use std::ffi::{OsStr, OsString};
+use std::ffi::OsStr;
+use std::fs::{self, File, Metadata};
+use std::io;
 use std::path::Path;
-use tables::text::{ACTION, ACTOR, Number};
-
-/// Makes the next argument a schedule in text.
-const TEXT: &str = "--text";
+use tables::text::{ACTION, ACTOR, Number, quoted};
 
 /// The seed of a drawn schedule.
-const SEED: Number<u32> = Number::up_to("a seed", u32::MAX);
+const SEED: Number<u32> = Number::of("a seed");
 
-/// The arguments of a sub-command: each operand that it declares once, and some of its options.
-#[derive(Clone, Debug)]
+/// Operands and options.
+#[derive(Clone, Debug, Default)]
 pub struct Given<'a> {
     operands: Vec<(&'static Operand, Word<'a>)>,
     options: Vec<(&'static Choice, Option<&'a OsStr>)>,
 }
 
-/// An operand as it was given.
-#[derive(Clone, Copy, Debug)]
-enum Word<'a> {
-    Plain(&'a OsStr),
-    Text(&'a OsStr),
-}
-
 impl<'a> Given<'a> {
-    /// Sorts the arguments of a sub-command with these operands and options.
-    pub fn of(
-        operands: &'static [Operand],
-        options: &'static [Choice],
-        arguments: &'a [OsString],
-    ) -> Result<Self, Failure> {
-        let mut given = Self {
-            operands: Vec::new(),
-            options: Vec::new(),
-        };
-        let mut rest = arguments.iter().map(OsString::as_os_str);
-        while let Some(argument) = rest.next() {
-            if argument == TEXT {
-                given.add(operands, Word::Text(after(&mut rest, TEXT, "a text")?))?;
-            } else if let Some(choice) = options.iter().find(|one| argument == one.name) {
-                given.choose(choice, &mut rest)?;
-            } else if argument.as_encoded_bytes().starts_with(b"-") {
-                return wrong(format!("there is no option `{}`", argument.display()));
-            } else {
-                given.add(operands, Word::Plain(argument))?;
+    /// What these arguments give to a sub-command with these operands.
+    pub fn of(operands: &'static [Operand], arguments: &[Argument<'a>]) -> Result<Self, Failure> {
+        let mut given = Self::default();
+        for argument in arguments {
+            match *argument {
+                Argument::Operand(word) => given.add(operands, word)?,
+                Argument::Option(choice, value) => given.choose(choice, value)?,
+                Argument::Help(_) => {}
             }
         }
         if let Some(missing) = operands.get(given.operands.len()) {
@@ -71,36 +54,37 @@ impl<'a> Given<'a> {
                 Ok(())
             }
             (None, Word::Plain(word) | Word::Text(word)) => {
-                wrong(format!("`{}` is one argument too many", word.display()))
+                wrong(format!("`{}` is one argument too many", shown(word)))
             }
         }
     }
 
     /// Adds an option, with its value where it has one.
-    fn choose(
-        &mut self,
-        choice: &'static Choice,
-        rest: &mut impl Iterator<Item = &'a OsStr>,
-    ) -> Result<(), Failure> {
-        let value = match choice.target {
-            Some(target) => Some(after(rest, choice.name, target)?),
-            None => None,
-        };
-        if self.options.iter().any(|(one, _)| one.name == choice.name) {
+    fn choose(&mut self, choice: &'static Choice, value: Option<&'a OsStr>) -> Result<(), Failure> {
+        if self.has(choice) {
             return wrong(format!("{} is given twice", choice.name));
         }
         self.options.push((choice, value));
         Ok(())
     }
 
-    /// No file that is written may be one that is read.
+    /// No file that is written may be one that is read, or one that the words go to.
     fn keep_apart(&self) -> Result<(), Failure> {
         for (target, path) in self.targets() {
-            let mut sources = self.sources();
-            if let Some((source, _)) = sources.find(|(_, source)| files::are_one(source, path)) {
-                let path = path.display();
+            let Ok(found) = fs::metadata(path) else {
+                continue;
+            };
+            let sources = self.sources();
+            let sources = sources.map(|(name, source)| (name, fs::metadata(source)));
+            let mut others = sources.chain(streams());
+            let is_target = |other: &io::Result<Metadata>| {
+                let other = other.as_ref();
+                other.is_ok_and(|other| are_one(&found, other))
+            };
+            if let Some((other, _)) = others.find(|(_, other)| is_target(other)) {
+                let path = shown(path);
                 return wrong(format!(
-                    "{target} and {source} are one file, `{path}`: writing it would destroy what it holds"
+                    "{target} and {other} are one file, `{path}`: writing it would destroy what it holds"
                 ));
             }
         }
@@ -142,38 +126,57 @@ impl<'a> Given<'a> {
         }
     }
 
-    /// The operand as a path.
-    pub fn path(&self, operand: &Operand) -> &'a Path {
+    /// The operand as it stands.
+    fn plain(&self, operand: &Operand) -> &'a OsStr {
         let (Word::Plain(word) | Word::Text(word)) = self.word(operand.name);
-        Path::new(word)
+        word
     }
 
-    /// The bytes of the file that the operand names.
-    pub fn file(&self, operand: &Operand) -> Result<Vec<u8>, Failure> {
-        files::read(self.path(operand))
+    /// The operand as a path.
+    pub fn path(&self, operand: &Operand) -> &'a Path {
+        Path::new(self.plain(operand))
+    }
+
+    /// The file that the operand names, as far as an answer needs it.
+    pub fn file(&self, operand: &Operand) -> Result<Source, Failure> {
+        Source::of_file(operand, self.path(operand), ENOUGH)
     }
 
     /// The schedule that the operand names or is.
-    pub fn schedule(&self, operand: &Operand) -> Result<Schedule, Failure> {
+    pub fn schedule(&self, operand: &Operand) -> Result<Source, Failure> {
         match self.word(operand.name) {
-            Word::Plain(_) => Ok(Schedule::of_file(self.file(operand)?)),
-            Word::Text(text) => Schedule::of_text(&text.to_string_lossy()).or_else(|mistake| {
-                let (column, words) = (mistake.column, mistake.words);
-                wrong(format!("{TEXT}, character {column}: {words}"))
-            }),
+            Word::Plain(_) => self.file(operand),
+            Word::Text(text) => {
+                let read = Source::of_text(operand, &text.to_string_lossy());
+                read.or_else(|mistake| {
+                    let (column, words) = (mistake.column, mistake.words);
+                    wrong(format!("{TEXT}, character {column}: {words}"))
+                })
+            }
         }
     }
 
     /// The step that the operand names.
     pub fn step(&self, operand: &Operand) -> Result<StepName, Failure> {
-        let (Word::Plain(word) | Word::Text(word)) = self.word(operand.name);
-        step(&word.to_string_lossy())
+        let word = self.plain(operand).to_string_lossy();
+        step(&word).or_else(|words| self.no_number(operand, words))
     }
 
     /// The seed that the operand is.
     pub fn seed(&self, operand: &Operand) -> Result<u32, Failure> {
-        let (Word::Plain(word) | Word::Text(word)) = self.word(operand.name);
-        SEED.read(&word.to_string_lossy()).or_else(wrong)
+        let word = self.plain(operand).to_string_lossy();
+        SEED.read(&word)
+            .or_else(|words| self.no_number(operand, words))
+    }
+
+    /// Wrong use of an operand that names no file, also where it does.
+    fn no_number<T>(&self, operand: &Operand, words: String) -> Result<T, Failure> {
+        let is_file = fs::metadata(self.path(operand)).is_ok_and(|found| found.is_file());
+        let file = is_file.then(|| self.file(operand).ok()).flatten();
+        match file.as_ref().and_then(exchanged) {
+            Some(hint) => wrong(format!("{words}\n{hint}")),
+            None => wrong(words),
+        }
     }
 
     /// Whether the option is given.
@@ -181,7 +184,7 @@ impl<'a> Given<'a> {
         self.options.iter().any(|(one, _)| one.name == choice.name)
     }
 
-    /// The path that follows the option, if it is given.
+    /// The path that is the option's value, if it is given.
     pub fn path_after(&self, choice: &Choice) -> Option<&'a Path> {
         let mut options = self.options.iter();
         let (_, value) = options.find(|(one, _)| one.name == choice.name)?;
@@ -189,33 +192,26 @@ impl<'a> Given<'a> {
     }
 }
 
-/// The next argument, which has to follow `option`.
-fn after<'a>(
-    rest: &mut impl Iterator<Item = &'a OsStr>,
-    option: &str,
-    what: &str,
-) -> Result<&'a OsStr, Failure> {
-    match rest.next() {
-        Some(argument) => Ok(argument),
-        None => wrong(format!("{what} is missing after {option}")),
-    }
+/// What the words go to.
+fn streams() -> impl Iterator<Item = (&'static str, io::Result<Metadata>)> {
+    let found = |stream: io::Result<File>| stream.and_then(|file| file.metadata());
+    let output = ("standard output", found(streams::output()));
+    let errors = ("standard error", found(streams::errors()));
+    [output, errors].into_iter()
 }
 
 /// A step's name from its text, `actor.action`.
-fn step(text: &str) -> Result<StepName, Failure> {
+fn step(text: &str) -> Result<StepName, String> {
+    let shown = quoted(text);
     let Some((actor, action)) = text.split_once('.') else {
-        return wrong(format!(
-            "`{text}` is no step: expected ACTOR.ACTION, such as 0.1"
+        return Err(format!(
+            "{shown} is no step: expected ACTOR.ACTION, such as 0.1"
         ));
     };
     let [actor, action] =
         [(ACTOR, actor), (ACTION, action)].map(|(number, word)| number.read(word));
     match (actor, action) {
         (Ok(actor), Ok(action)) => Ok(StepName::new(actor, action)),
-        (Err(words), _) | (_, Err(words)) => wrong(format!("`{text}` is no step: {words}")),
+        (Err(words), _) | (_, Err(words)) => Err(format!("{shown} is no step: {words}")),
     }
-}
-
-fn wrong<T>(words: String) -> Result<T, Failure> {
-    Err(Failure::Use(words))
 }

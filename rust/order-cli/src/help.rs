@@ -1,8 +1,11 @@
 //! The help: of the whole, and of each sub-command.
 
+use crate::answer::Failure;
+use crate::arguments::{Argument, END, wrong};
 use crate::command::Command;
 use crate::commands;
 use crate::operand::QUIET;
+use crate::shown::shown;
 use crate::words::joined;
 use std::ffi::OsStr;
 use std::fmt::Write;
@@ -13,6 +16,26 @@ pub const HELP: &str = "--help";
 /// Whether the argument asks for help.
 pub fn asked(argument: &OsStr) -> bool {
     argument == HELP || argument == "-h"
+}
+
+/// Whether these arguments ask for help. Where the exit status is a verdict, help would be taken for
+/// one.
+pub fn wanted(arguments: &[Argument]) -> Result<bool, Failure> {
+    let mut asks = arguments.iter().filter_map(|argument| match argument {
+        Argument::Help(word) => Some(word),
+        Argument::Operand(_) | Argument::Option(..) => None,
+    });
+    let by_status = arguments.iter().any(|argument| match argument {
+        Argument::Option(choice, _) => choice.verdicts.is_some(),
+        Argument::Operand(_) | Argument::Help(_) => false,
+    });
+    match asks.next() {
+        Some(word) if by_status => wrong(format!(
+            "{0} asks for help, which {QUIET} leaves no room for; a file called {0} is given after {END}",
+            shown(word)
+        )),
+        asked => Ok(asked.is_some()),
+    }
 }
 
 /// What the command is, and its sub-commands.
@@ -26,6 +49,8 @@ pub fn overview() -> String {
     text += "\n`order COMMAND --help` says more.\n\n";
     text += "A schedule is a file with a byte for each entry, the number of an actor; or, in its place,\n\
         a text: --text \"0 1 0 1\".\n\n";
+    text += "Options may stand anywhere, and `--` ends them: what follows it is no option. What belongs to an\n\
+        option follows it, or is joined to it by =, as it has to be where it begins with a dash.\n\n";
     text + &statuses(commands::ALL)
 }
 
@@ -45,7 +70,7 @@ fn statuses(commands: &[&Command]) -> String {
         "exit status\n\
         \x20 0  {answered}\n\
         \x20 1  refused: number, position and reason are on standard error\n\
-        \x20 2  wrong use, a file that cannot be read or written, or a mistake in a text\n\
+        \x20 2  wrong use, a file or an output that cannot be read or written, or a mistake in a text\n\
         {last}"
     )
 }
@@ -79,6 +104,6 @@ pub fn after_wrong_use(command: &Command, words: &str) -> String {
 /// That there is no such sub-command, and which there are.
 pub fn no_command(name: &OsStr) -> String {
     let names = joined(commands::ALL.iter().map(|command| command.name));
-    let name = name.display();
+    let name = shown(name);
     format!("order: there is no command `{name}`; there are {names}\n`order {HELP}` says more.\n")
 }

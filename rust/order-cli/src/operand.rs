@@ -7,6 +7,8 @@ pub struct Operand {
     pub name: &'static str,
     /// What it is, in a line.
     pub what: &'static str,
+    /// What a refusal calls it.
+    pub role: &'static str,
     /// What is done with it.
     pub sort: Sort,
 }
@@ -43,21 +45,24 @@ pub struct Choice {
 pub const TABLE: Operand = Operand {
     name: "TABLE",
     what: "the file of a task table",
+    role: "the table",
     sort: Sort::Source,
 };
 
 /// The one schedule.
 pub const SCHEDULE: Operand = schedule(
     "SCHEDULE",
+    "the schedule",
     "a schedule: a file of bytes, or a text, --text \"0 1 0 1\"",
 );
 /// The first of two schedules.
 pub const FIRST: Operand = schedule(
     "FIRST",
+    "the first schedule",
     "a schedule: a file of bytes, or a text, --text \"0 0 1 1\"",
 );
 /// The second of two schedules.
-pub const SECOND: Operand = schedule("SECOND", "another, likewise");
+pub const SECOND: Operand = schedule("SECOND", "the second schedule", "another, likewise");
 
 /// The option that lets the exit status answer.
 pub const QUIET: &str = "--quiet";
@@ -91,10 +96,11 @@ pub const fn to_file(name: &'static str, what: &'static str) -> Choice {
     }
 }
 
-const fn schedule(name: &'static str, what: &'static str) -> Operand {
+const fn schedule(name: &'static str, role: &'static str, what: &'static str) -> Operand {
     Operand {
         name,
         what,
+        role,
         sort: Sort::Schedule,
     }
 }

@@ -1,6 +1,7 @@
 //! Two recordings, which need not end together: what both have, and what is left of the longer.
 
-use crate::words::count;
+use crate::length::Length;
+use crate::source::Source;
 use order_engine::{Recording, remainder};
 
 /// Two recordings, the longer held to the length of the shorter.
@@ -11,24 +12,25 @@ pub struct Recordings<'a> {
     /// The second, as far as both go.
     pub second: &'a [u8],
     longer: Recording,
-    left: usize,
+    left: Length,
 }
 
 impl<'a> Recordings<'a> {
-    /// These two, parted from the remainder that the engine says.
-    pub fn of(first: &'a [u8], second: &'a [u8]) -> Self {
+    /// These two, parted from the remainder that the engine says. The shorter is read to its end, or
+    /// it is refused.
+    pub fn of(first: &'a Source, second: &'a Source) -> Self {
         let longer = remainder::fields(first, second).which();
         let left = remainder(first, second).len();
         let without = |whole: &'a [u8]| &whole[..whole.len() - left];
-        let (first, second) = match longer {
-            Recording::First => (without(first), second),
-            Recording::Second => (first, without(second)),
+        let (first, second, length) = match longer {
+            Recording::First => (without(first), &second[..], first.length()),
+            Recording::Second => (&first[..], without(second), second.length()),
         };
         Self {
             first,
             second,
             longer,
-            left,
+            left: length.after(first.len()),
         }
     }
 
@@ -38,11 +40,12 @@ impl<'a> Recordings<'a> {
             Recording::First => "first",
             Recording::Second => "second",
         };
-        let entries = count(self.left, "entry", "entries");
         match self.left {
-            0 => "No entry is left over.\n".to_owned(),
-            1 => format!("{entries} of the {which} is left over and plays no part.\n"),
-            _ => format!("{entries} of the {which} are left over and play no part.\n"),
+            Length::Exactly(0) => "No entry is left over.\n".to_owned(),
+            Length::Exactly(1) => {
+                format!("1 entry of the {which} is left over and plays no part.\n")
+            }
+            left => format!("{left} entries of the {which} are left over and play no part.\n"),
         }
     }
 }
@@ -50,6 +53,8 @@ impl<'a> Recordings<'a> {
 #[cfg(test)]
 mod tests {
     use super::Recordings;
+    use crate::operand::{FIRST, SECOND};
+    use crate::source::Source;
 
     #[test]
     fn parted() {
@@ -61,7 +66,9 @@ mod tests {
             (&[1, 0], &[0, 1], "No entry is"),
             (&[], &[], "No entry is"),
         ] {
-            let parted = Recordings::of(first, second);
+            let one = Source::of_bytes(&FIRST, "one", first.to_vec());
+            let other = Source::of_bytes(&SECOND, "other", second.to_vec());
+            let parted = Recordings::of(&one, &other);
             let length = first.len().min(second.len());
             assert_eq!(parted.first, &first[..length]);
             assert_eq!(parted.second, &second[..length]);

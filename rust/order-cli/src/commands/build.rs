@@ -2,23 +2,28 @@
 
 use crate::answer::{Answer, Failure};
 use crate::command::{Command, Example};
-use crate::files;
 use crate::given::Given;
 use crate::operand::{Operand, Sort};
-use crate::refusals::{Asked, place, pointed};
+use crate::refusals::{Asked, exchanged, place, pointed};
+use crate::shown::shown;
+use crate::source::Source;
 use crate::table::Table;
-use std::path::Path;
-use tables::text::{Built, Mistake, build, decode};
+use tables::text::{Built, build, decode};
+
+/// The bytes of the longest text that is taken, a hundred times what the largest table wants.
+const LONGEST_TEXT: usize = 1 << 20;
 
 const TEXT: Operand = Operand {
     name: "TEXT",
     what: "the file of a text, as `order show` prints it; # begins a comment",
+    role: "the text",
     sort: Sort::Source,
 };
 
 const TARGET: Operand = Operand {
     name: "TABLE",
     what: "the file that the table is written to",
+    role: "the table",
     sort: Sort::Target,
 };
 
@@ -44,32 +49,40 @@ actor 2: 2 actions
 };
 
 fn run(given: &Given) -> Result<Answer, Failure> {
-    let path = given.path(&TEXT);
-    let bytes = given.file(&TEXT)?;
-    let built = decode(&bytes).and_then(build);
-    let built = built.map_err(|mistake| at(path, &mistake))?;
-    let table = accepted(path, &built)?;
+    let text = Source::of_file(&TEXT, given.path(&TEXT), LONGEST_TEXT + 1)?;
+    let built = built(&text)?;
+    let table = accepted(&text, &built)?;
     let target = given.path(&TARGET);
-    files::write(target, &table.bytes)?;
-    let words = format!("wrote {}: {}", target.display(), table.summary());
-    Ok(Answer::of(words))
+    let words = format!("wrote {}: {}", shown(target), table.summary());
+    Answer::of(words).with_file(target, &table.bytes)
 }
 
-fn at(path: &Path, mistake: &Mistake) -> Failure {
-    Failure::Trouble(format!("{}:{mistake}\n", path.display()))
+/// What the text describes.
+fn built(text: &Source) -> Result<Built, Failure> {
+    let name = text.name();
+    if text.len() > LONGEST_TEXT {
+        let length = text.length();
+        return Err(Failure::Trouble(format!(
+            "{name}: a text has at most {LONGEST_TEXT} bytes, the file has {length}\n"
+        )));
+    }
+    decode(text).and_then(build).map_err(|mistake| {
+        let hint = exchanged(text).map_or_else(String::new, |words| words + "\n");
+        Failure::Trouble(format!("{name}:{mistake}\n{hint}"))
+    })
 }
 
 /// The table, if the engine accepts it; a refusal with the place in the text that it points at.
-fn accepted(path: &Path, built: &Built) -> Result<Table, Failure> {
-    let bytes = built.layout.bytes();
-    Table::of(&bytes).map_err(|refusal| {
+fn accepted(text: &Source, built: &Built) -> Result<Table, Failure> {
+    let table = Source::of_bytes(&TARGET, text.name(), built.layout.bytes());
+    Table::of(&table).map_err(|refusal| {
         let place = place(refusal, built);
         let place = place.map_or_else(String::new, |place| format!("{place}:"));
         let (number, sentence) = (refusal.number(), refusal.sentence());
-        let words = pointed(refusal, &Asked::of(&bytes));
-        let path = path.display();
+        let words = pointed(refusal, &Asked::of(&table));
+        let name = text.name();
         Failure::Refused(format!(
-            "{path}:{place} refused {number}: {sentence}\n{words}"
+            "{name}:{place} refused {number}: {sentence}\n{words}"
         ))
     })
 }

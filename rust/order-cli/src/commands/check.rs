@@ -4,7 +4,7 @@ use crate::answer::{Answer, Failure};
 use crate::command::{Command, Example};
 use crate::given::Given;
 use crate::operand::TABLE;
-use crate::refusals::accepted;
+use crate::refusals::Asked;
 
 /// The sub-command.
 pub static COMMAND: Command = Command {
@@ -26,6 +26,6 @@ actor 2: 2 actions
 };
 
 fn run(given: &Given) -> Result<Answer, Failure> {
-    let table = accepted(&given.file(&TABLE)?)?;
+    let table = Asked::of(&given.file(&TABLE)?).accepted()?;
     Ok(Answer::of(format!("accepted: {}", table.summary())))
 }

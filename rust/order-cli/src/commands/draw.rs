@@ -2,10 +2,9 @@
 
 use crate::answer::{Answer, Failure};
 use crate::command::{Command, Example};
-use crate::files;
 use crate::given::Given;
 use crate::operand::{Choice, Operand, Sort, TABLE, to_file};
-use crate::refusals::{Asked, accepted, refused};
+use crate::refusals::Asked;
 use crate::state::{State, Status};
 use crate::words::{count, spaced};
 use order_engine::{REPORT_ROOM, SCHEDULE_MOST, draw};
@@ -13,6 +12,7 @@ use order_engine::{REPORT_ROOM, SCHEDULE_MOST, draw};
 const SEED: Operand = Operand {
     name: "SEED",
     what: "0 to 4294967295, decimal or hexadecimal after 0x",
+    role: "the seed",
     sort: Sort::Seed,
 };
 
@@ -40,8 +40,10 @@ finished: every actor has run all its actions
 
 fn run(given: &Given) -> Result<Answer, Failure> {
     let seed = given.seed(&SEED)?;
-    let table = accepted(&given.file(&TABLE)?)?;
-    let words = |refusal| refused(refusal, &Asked::of(&table.bytes));
+    let file = given.file(&TABLE)?;
+    let asked = Asked::of(&file);
+    let table = asked.accepted()?;
+    let words = |refusal| asked.refused(refusal);
     let mut buffer = [0; SCHEDULE_MOST];
     let schedule = draw(&table.bytes, seed, &mut buffer).map_err(words)?;
     let mut report = [0; REPORT_ROOM];
@@ -49,10 +51,7 @@ fn run(given: &Given) -> Result<Answer, Failure> {
     let mut text = drawn(seed, schedule);
     text += &format!("{}\n", state.ending());
     text += &left(&state);
-    if let Some(path) = given.path_after(&OUT) {
-        text += &files::write_told("schedule", path, schedule)?;
-    }
-    Ok(Answer::of(text))
+    Answer::of(text).also_in(given.path_after(&OUT), "schedule", schedule)
 }
 
 /// The entries, as a schedule's text has them.

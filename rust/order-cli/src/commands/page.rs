@@ -4,7 +4,7 @@ use crate::answer::{Answer, Failure};
 use crate::command::{Command, Example};
 use crate::given::Given;
 use crate::operand::{SCHEDULE, TABLE};
-use crate::refusals::{Asked, refused};
+use crate::refusals::Asked;
 use order_engine::{PAGE_ROOM, page};
 
 /// The sub-command.
@@ -33,6 +33,6 @@ fn run(given: &Given) -> Result<Answer, Failure> {
     let (table, schedule) = (given.file(&TABLE)?, given.schedule(&SCHEDULE)?);
     let mut buffer = [0; PAGE_ROOM];
     let page = page(&table, &schedule, &mut buffer)
-        .map_err(|refusal| refused(refusal, &Asked::of_one(&table, &schedule)))?;
+        .map_err(|refusal| Asked::of_one(&table, &schedule).refused(refusal))?;
     Ok(Answer::of(page.to_owned()))
 }

@@ -4,7 +4,7 @@ use crate::answer::{Answer, Failure};
 use crate::command::{Command, Example};
 use crate::given::Given;
 use crate::operand::{Choice, Operand, Sort, TABLE, quiet};
-use crate::refusals::{Asked, accepted, refused};
+use crate::refusals::Asked;
 use crate::rule::rule;
 use crate::words::step;
 use order_engine::{PairVerdict, pair};
@@ -12,12 +12,14 @@ use order_engine::{PairVerdict, pair};
 const ONE: Operand = Operand {
     name: "A.K",
     what: "a step: actor A's action K, both counted from 0",
+    role: "the first step",
     sort: Sort::Step,
 };
 
 const OTHER: Operand = Operand {
     name: "B.L",
     what: "another, likewise",
+    role: "the second step",
     sort: Sort::Step,
 };
 
@@ -44,10 +46,11 @@ case 1: both Send on mailbox 0
 
 fn run(given: &Given) -> Result<Answer, Failure> {
     let steps = [given.step(&ONE)?, given.step(&OTHER)?];
-    let table = accepted(&given.file(&TABLE)?)?;
+    let file = given.file(&TABLE)?;
+    let asked = Asked::of_steps(&file, &steps);
+    let table = asked.accepted()?;
     let [one, other] = steps;
-    let verdict = pair(&table.bytes, one, other)
-        .map_err(|refusal| refused(refusal, &Asked::of_steps(&table.bytes, &steps)))?;
+    let verdict = pair(&table.bytes, one, other).map_err(|refusal| asked.refused(refusal))?;
     if given.has(&QUIET) {
         return Ok(Answer::quiet(verdict == PairVerdict::Independent));
     }

@@ -4,7 +4,7 @@ use crate::answer::{Answer, Failure};
 use crate::command::{Command, Example};
 use crate::given::Given;
 use crate::operand::{SCHEDULE, TABLE};
-use crate::refusals::{accepted, reached};
+use crate::refusals::Asked;
 use order_engine::REPORT_ROOM;
 
 /// The sub-command.
@@ -33,9 +33,10 @@ actor 2 waits: 2.1 WaitAny for 2.0; 2.0 Receive from mailbox 0 has met no Send
 
 fn run(given: &Given) -> Result<Answer, Failure> {
     let (table, schedule) = (given.file(&TABLE)?, given.schedule(&SCHEDULE)?);
-    let table = accepted(&table)?;
+    let asked = Asked::of_one(&table, &schedule);
+    let table = asked.accepted()?;
     let mut buffer = [0; REPORT_ROOM];
-    let state = reached(&table, &schedule, &mut buffer)?;
+    let state = asked.reached(&table, &mut buffer)?;
     let mut text = format!("{}\n{}\n", state.ending(), state.mask());
     text.extend(state.report.actors().map(|actor| state.stands(&actor)));
     Ok(Answer::of(text))

@@ -5,7 +5,7 @@ use crate::command::{Command, Example};
 use crate::given::Given;
 use crate::names::names;
 use crate::operand::{FIRST, SECOND, TABLE};
-use crate::refusals::{Asked, accepted, refused};
+use crate::refusals::Asked;
 use crate::table::Table;
 use crate::words::{count, spaced, step};
 use order_engine::{route, route_room, same};
@@ -38,10 +38,11 @@ then the schedule is: 2 1 0 0 1 2
 fn run(given: &Given) -> Result<Answer, Failure> {
     let table = given.file(&TABLE)?;
     let (first, second) = (given.schedule(&FIRST)?, given.schedule(&SECOND)?);
-    let table = accepted(&table)?;
+    let asked = Asked::of_two(&table, &first, &second);
+    let table = asked.accepted()?;
     let mut buffer = vec![0; room(&table, &first, &second)];
     let route = route(&table.bytes, &first, &second, &mut buffer)
-        .map_err(|refusal| refused(refusal, &Asked::of_two(&table.bytes, &first, &second)))?;
+        .map_err(|refusal| asked.refused(refusal))?;
     Ok(Answer::of(told(&table, &first, route)))
 }
 

@@ -2,11 +2,10 @@
 
 use crate::answer::{Answer, Failure};
 use crate::command::{Command, Example};
-use crate::files;
 use crate::given::Given;
 use crate::names::names;
 use crate::operand::{Choice, SCHEDULE, TABLE, plain, to_file};
-use crate::refusals::{accepted, reached};
+use crate::refusals::Asked;
 use crate::table::Table;
 use crate::words::step;
 use order_engine::REPORT_ROOM;
@@ -45,18 +44,16 @@ mailbox 0: 0.1 Send with 145, then 1.1 Send with 139
 
 fn run(given: &Given) -> Result<Answer, Failure> {
     let (table, schedule) = (given.file(&TABLE)?, given.schedule(&SCHEDULE)?);
-    let table = accepted(&table)?;
+    let asked = Asked::of_one(&table, &schedule);
+    let table = asked.accepted()?;
     let mut buffer = [0; REPORT_ROOM];
-    let state = reached(&table, &schedule, &mut buffer)?;
+    let state = asked.reached(&table, &mut buffer)?;
     let mut text = String::new();
     if given.has(&STEPS) {
         text += &steps(&table, &schedule);
     }
     text += &state.words();
-    if let Some(path) = given.path_after(&REPORT) {
-        text += &files::write_told("report", path, state.report.bytes())?;
-    }
-    Ok(Answer::of(text))
+    Answer::of(text).also_in(given.path_after(&REPORT), "report", state.report.bytes())
 }
 
 /// A line for each entry of an accepted schedule: the step that it runs.

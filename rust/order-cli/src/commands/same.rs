@@ -6,7 +6,7 @@ use crate::difference::{Pairs, difference};
 use crate::given::Given;
 use crate::operand::{Choice, FIRST, SECOND, TABLE, plain, quiet};
 use crate::recordings::Recordings;
-use crate::refusals::{Asked, accepted, refused};
+use crate::refusals::Asked;
 use order_engine::{SameVerdict, prefix, same};
 
 const PREFIX: Choice = plain(
@@ -57,11 +57,12 @@ They are dependent, case 1: both Send on mailbox 0.
 fn run(given: &Given) -> Result<Answer, Failure> {
     let table = given.file(&TABLE)?;
     let (first, second) = (given.schedule(&FIRST)?, given.schedule(&SECOND)?);
-    let table = accepted(&table)?;
+    let asked = Asked::of_two(&table, &first, &second);
+    let table = asked.accepted()?;
     let by_parts = given.has(&PREFIX);
     let verdict = if by_parts { prefix } else { same };
-    let answer = verdict(&table.bytes, &first, &second)
-        .map_err(|refusal| refused(refusal, &Asked::of_two(&table.bytes, &first, &second)))?;
+    let answer =
+        verdict(&table.bytes, &first, &second).map_err(|refusal| asked.refused(refusal))?;
     if given.has(&QUIET) {
         return Ok(Answer::quiet(answer.is_same()));
     }

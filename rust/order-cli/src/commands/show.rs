@@ -4,7 +4,7 @@ use crate::answer::{Answer, Failure};
 use crate::command::{Command, Example};
 use crate::given::Given;
 use crate::operand::TABLE;
-use crate::refusals::accepted;
+use crate::refusals::Asked;
 use tables::text;
 
 /// The sub-command.
@@ -40,6 +40,6 @@ actor 2
 };
 
 fn run(given: &Given) -> Result<Answer, Failure> {
-    let table = accepted(&given.file(&TABLE)?)?;
+    let table = Asked::of(&given.file(&TABLE)?).accepted()?;
     Ok(Answer::of(text::show(&table.layout)))
 }

@@ -1,14 +1,14 @@
 //! Refusals 11 to 16, 21 and 22: the entry, what it says, and why that cannot be in the state before
 //! it.
 
-use crate::schedule::Schedule;
+use crate::source::Source;
 use crate::state::{State, Status};
 use crate::table::Table;
 use crate::words::{count, step};
 use order_engine::REPORT_ROOM;
 
 /// Why the entry at `index` is refused after those before it.
-pub(super) fn words(table: &Table, schedule: &Schedule, index: usize) -> String {
+pub(super) fn words(table: &Table, schedule: &Source, index: usize) -> String {
     let Some((before, &[actor, ..])) = schedule.split_at_checked(index) else {
         return String::new();
     };
@@ -42,7 +42,7 @@ pub(super) fn words(table: &Table, schedule: &Schedule, index: usize) -> String 
 }
 
 /// A line for an entry that comes from a file written as a text. It is larger than any actor.
-fn character(schedule: &Schedule, entry: u8) -> String {
+fn character(schedule: &Source, entry: u8) -> String {
     let name = match entry {
         b'\n' => "a line feed".to_owned(),
         b' ' => "a space".to_owned(),

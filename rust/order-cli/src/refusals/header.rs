@@ -1,5 +1,6 @@
 //! Refusals 1 to 5: what the header and the directory say, against what is there.
 
+use crate::length::Length;
 use crate::words::count;
 use std::ops::RangeInclusive;
 use tables::layout::{ACTION, EDITION, ENTRY, HEADER, MOST, MOST_ACTIONS, first_offset};
@@ -114,12 +115,11 @@ pub(super) fn fault(table: &[u8]) -> Option<Fault> {
 }
 
 /// Refusal 5.
-pub(super) fn end(table: &[u8]) -> String {
+pub(super) fn end(table: &[u8], length: Length) -> String {
     let actors = table.get(1).map_or(0, |&actors| usize::from(actors));
     let first = first_offset(actors);
     let listed = self::entries(table.get(HEADER..first).unwrap_or_default());
     let end = listed.fold(first, |end, (_, actions)| end + ACTION * actions);
-    let length = table.len();
     format!("the last action ends after {end} bytes, the file has {length}\n")
 }
 

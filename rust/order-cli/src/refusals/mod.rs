@@ -1,45 +1,49 @@
-//! What a refusal points at, in words.
+//! What a refusal is about, and what it points at, in words.
 
 mod action;
 mod entry;
+mod exchanged;
 mod header;
 mod name;
 mod text;
 
+pub use exchanged::exchanged;
 pub use text::place;
 
 use crate::answer::Failure;
 use crate::difference::{Pairs, difference};
-use crate::schedule::Schedule;
+use crate::source::Source;
 use crate::state::State;
 use crate::table::Table;
 use order_engine::{Reason, Refusal, StepName, same};
 use tables::Layout;
 
 /// What a call was asked about.
-#[derive(Clone, Copy, Debug, Default)]
+#[derive(Clone, Copy, Debug)]
 pub struct Asked<'a> {
-    /// The table's bytes.
-    pub table: &'a [u8],
+    /// The table.
+    pub table: &'a Source,
     /// The schedule, or the first of two.
-    pub first: Option<&'a Schedule>,
+    pub first: Option<&'a Source>,
     /// The second schedule.
-    pub second: Option<&'a Schedule>,
+    pub second: Option<&'a Source>,
     /// The steps.
     pub steps: &'a [StepName],
 }
 
 impl<'a> Asked<'a> {
     /// A question about a table alone.
-    pub fn of(table: &'a [u8]) -> Self {
+    pub fn of(table: &'a Source) -> Self {
         Self {
             table,
-            ..Self::default()
+            first: None,
+            second: None,
+            steps: &[],
         }
     }
 
     /// A question about a schedule.
-    pub fn of_one(table: &'a [u8], schedule: &'a Schedule) -> Self {
+    pub fn of_one(table: &'a Source, schedule: &'a Source) -> Self {
         Self {
             first: Some(schedule),
             ..Self::of(table)
@@ -47,7 +51,7 @@ impl<'a> Asked<'a> {
     }
 
     /// A question about two schedules.
-    pub fn of_two(table: &'a [u8], first: &'a Schedule, second: &'a Schedule) -> Self {
+    pub fn of_two(table: &'a Source, first: &'a Source, second: &'a Source) -> Self {
         Self {
             second: Some(second),
             ..Self::of_one(table, first)
@@ -55,32 +59,55 @@ impl<'a> Asked<'a> {
     }
 
     /// A question about steps.
-    pub fn of_steps(table: &'a [u8], steps: &'a [StepName]) -> Self {
+    pub fn of_steps(table: &'a Source, steps: &'a [StepName]) -> Self {
         Self {
             steps,
             ..Self::of(table)
         }
     }
-}
 
-/// The table, if the engine accepts its bytes; otherwise the refusal in words.
-pub fn accepted(bytes: &[u8]) -> Result<Table, Failure> {
-    Table::of(bytes).map_err(|refusal| refused(refusal, &Asked::of(bytes)))
-}
+    /// The table, if the engine accepts it; otherwise the refusal in words.
+    pub fn accepted(&self) -> Result<Table, Failure> {
+        Table::of(self.table).map_err(|refusal| self.refused(refusal))
+    }
 
-/// The state that a schedule leads to, if the engine accepts it; otherwise the refusal in words.
-pub fn reached<'a>(
-    table: &'a Table,
-    schedule: &Schedule,
-    buffer: &'a mut [u8],
-) -> Result<State<'a>, Failure> {
-    State::after(table, schedule, buffer)
-        .map_err(|refusal| refused(refusal, &Asked::of_one(&table.bytes, schedule)))
-}
+    /// The state that the schedule leads to, if the engine accepts it; otherwise the refusal in words.
+    pub fn reached<'b>(
+        &self,
+        table: &'b Table,
+        buffer: &'b mut [u8],
+    ) -> Result<State<'b>, Failure> {
+        let schedule = self.first.map_or(&[][..], |schedule| schedule);
+        State::after(table, schedule, buffer).map_err(|refusal| self.refused(refusal))
+    }
 
-/// A refusal as the answer to what was asked, with what it points at.
-pub fn refused(refusal: Refusal, asked: &Asked) -> Failure {
-    Failure::Refused(format!("{refusal}\n{}", pointed(refusal, asked)))
+    /// A refusal as the answer: what it is about, and what it points at.
+    pub fn refused(&self, refusal: Refusal) -> Failure {
+        let about = self.about(refusal.reason()).map(|source| {
+            let (role, name) = (source.role(), source.name());
+            format!("{role} is {name}\n")
+        });
+        let about: String = about.collect();
+        let points = pointed(refusal, self);
+        let hint = exchanged::words(refusal.reason(), self);
+        Failure::Refused(format!("{refusal}\n{about}{points}{hint}"))
+    }
+
+    /// What a refusal is about.
+    fn about(&self, reason: Reason) -> impl Iterator<Item = &'a Source> {
+        let about = match reason {
+            Reason::NoActor | Reason::Finished | Reason::NotReady | Reason::Over => {
+                [self.first, None]
+            }
+            Reason::SecondNoActor
+            | Reason::SecondFinished
+            | Reason::SecondNotReady
+            | Reason::SecondOver => [None, self.second],
+            Reason::Different => [self.first, self.second],
+            _ => [Some(self.table), None],
+        };
+        about.into_iter().flatten()
+    }
 }
 
 /// What a refusal points at. A reason that has no words here is said by its sentence alone.
@@ -91,7 +118,7 @@ pub fn pointed(refusal: Refusal, asked: &Asked) -> String {
         Reason::Edition => header::edition(asked.table),
         Reason::Count => header::counts(asked.table),
         Reason::Directory => header::directory(asked.table),
-        Reason::TableEnd => header::end(asked.table),
+        Reason::TableEnd => header::end(asked.table, asked.table.length()),
         Reason::Kind | Reason::Range | Reason::Listed | Reason::Unused => {
             let layout = Layout::of(asked.table);
             layout.map_or_else(String::new, |layout| action::words(refusal, &layout))
@@ -127,7 +154,7 @@ fn of_table(asked: &Asked, words: impl FnOnce(&Table) -> String) -> String {
 }
 
 /// Words about an entry of a schedule.
-fn of_entry(asked: &Asked, schedule: Option<&Schedule>, index: usize) -> String {
+fn of_entry(asked: &Asked, schedule: Option<&Source>, index: usize) -> String {
     schedule.map_or_else(String::new, |schedule| {
         of_table(asked, |table| entry::words(table, schedule, index))
     })

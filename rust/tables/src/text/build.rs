@@ -4,7 +4,7 @@ use super::actions::action;
 use super::line::Line;
 use super::number::Number;
 use super::place::{Mistake, Place};
-use crate::layout::{Layout, MOST};
+use crate::layout::Layout;
 
 /// The most actions of an actor that a directory's entry can count.
 const COUNTED: usize = u16::MAX as usize;
@@ -28,7 +28,7 @@ pub fn build(text: &str) -> Result<Built, Mistake> {
     let all = numbered.map(|(line, number)| Line::of(number, line));
     let mut lines = all.filter(|line| !line.is_empty());
     let end = Place::end_of(text);
-    let mut count = |word, what| count(lines.next(), word, Number::up_to(what, MOST), end);
+    let mut count = |word, what| count(lines.next(), word, Number::of(what), end);
     let (actors, first) = count("actors", "the number of actors")?;
     let (mailboxes, second) = count("mailboxes", "the number of mailboxes")?;
     let (mutexes, third) = count("mutexes", "the number of mutexes")?;
@@ -119,7 +119,7 @@ fn numbered(line: &mut Line, own: usize) -> Result<(), Mistake> {
 /// Passes a number that has to be `own`; `what` says what it is.
 fn in_turn(line: &mut Line, own: usize, what: &'static str) -> Result<(), Mistake> {
     let other = line.expected(&format!("{what} in turn, {own}"));
-    let number = line.number(Number::up_to(what, u64::MAX))?;
+    let number = line.number(Number::<u64>::of(what))?;
     match usize::try_from(number) {
         Ok(number) if number == own => Ok(()),
         _ => Err(other),

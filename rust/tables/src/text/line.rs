@@ -1,9 +1,8 @@
 //! A line taken apart: its words and signs with their columns, and reading them one by one.
 
-use super::number::Number;
+use super::number::{Bytes, Number};
 use super::place::{Mistake, Place};
 use super::quote::quoted;
-use std::fmt::Display;
 
 /// The signs that are words of their own, wherever they stand.
 const SIGNS: [char; 4] = [':', '[', ']', ','];
@@ -80,10 +79,7 @@ impl<'a> Line<'a> {
     }
 
     /// Passes a number.
-    pub(super) fn number<T>(&mut self, number: Number<T>) -> Result<T, Mistake>
-    where
-        T: TryFrom<u64> + Display,
-    {
+    pub(super) fn number<T: Bytes>(&mut self, number: Number<T>) -> Result<T, Mistake> {
         let Some(word) = self.peek() else {
             return Err(self.expected(number.what));
         };

@@ -41,5 +41,6 @@ pub use build::{Built, build};
 pub use decode::{decode, looks_like_text};
 pub use number::{ACTION, ACTOR, Number};
 pub use place::{Mistake, Place};
+pub use quote::quoted;
 pub use schedule::schedule;
 pub use show::{show, show_action};

@@ -1,43 +1,63 @@
 //! Numbers in a text: how they are written, and what each is.
 
 use super::quote::quoted;
-use crate::layout::{CELLS, MOST, MOST_ACTIONS};
 use std::fmt::Display;
+use std::marker::PhantomData;
 
-/// A number that a text asks for. One that fits its bytes and is yet too large is the engine's to
-/// refuse.
+/// A number that a text asks for. Every number that fits its bytes is taken: whether there is such a
+/// cell, mailbox, mutex or actor is the engine's to say.
 #[derive(Clone, Copy, Debug)]
 pub struct Number<T> {
     /// What it is.
     pub what: &'static str,
-    /// The most that it is in a table that the engine accepts.
-    pub most: T,
+    bytes: PhantomData<T>,
+}
+
+/// The bytes that a number has to fit.
+pub trait Bytes: TryFrom<u64> + Display {
+    /// The most that fits.
+    const MOST: Self;
+}
+
+impl Bytes for u8 {
+    const MOST: Self = Self::MAX;
+}
+
+impl Bytes for u32 {
+    const MOST: Self = Self::MAX;
+}
+
+impl Bytes for u64 {
+    const MOST: Self = Self::MAX;
 }
 
 /// A cell.
-pub const CELL: Number<u8> = Number::up_to("a cell's number", CELLS - 1);
+pub const CELL: Number<u8> = Number::of("a cell's number");
 /// A mailbox.
-pub const MAILBOX: Number<u8> = Number::up_to("a mailbox's number", MOST - 1);
+pub const MAILBOX: Number<u8> = Number::of("a mailbox's number");
 /// A mutex.
-pub const MUTEX: Number<u8> = Number::up_to("a mutex's number", MOST - 1);
+pub const MUTEX: Number<u8> = Number::of("a mutex's number");
 /// An actor.
-pub const ACTOR: Number<u8> = Number::up_to("an actor's number", MOST - 1);
+pub const ACTOR: Number<u8> = Number::of("an actor's number");
 /// An action, within its actor.
-pub const ACTION: Number<u8> = Number::up_to("an action's number", MOST_ACTIONS as u8 - 1);
+pub const ACTION: Number<u8> = Number::of("an action's number");
 /// A value for a cell.
-pub const VALUE: Number<u32> = Number::up_to("a value", u32::MAX);
+pub const VALUE: Number<u32> = Number::of("a value");
 
 impl<T> Number<T> {
-    /// A number up to `most`; `what` says what it is.
-    pub const fn up_to(what: &'static str, most: T) -> Self {
-        Self { what, most }
+    /// A number; `what` says what it is.
+    pub const fn of(what: &'static str) -> Self {
+        Self {
+            what,
+            bytes: PhantomData,
+        }
     }
 }
 
-impl<T: TryFrom<u64> + Display> Number<T> {
+impl<T: Bytes> Number<T> {
     /// The number that `word` is; otherwise what is wrong with it.
     pub fn read(&self, word: &str) -> Result<T, String> {
-        let Self { what, most } = self;
+        let (what, most) = (self.what, T::MOST);
         match number(word).map(T::try_from) {
             None => Err(format!("expected {what}, found {}", quoted(word))),
             Some(Err(_)) => Err(format!(
@@ -89,7 +109,7 @@ mod tests {
     #[test]
     fn what_fits_is_taken() {
         assert_eq!(CELL.read("255"), Ok(255));
-        let words = "`256` is too large for a cell's number: at most 7";
+        let words = "`256` is too large for a cell's number: at most 255";
         assert_eq!(CELL.read("256"), Err(words.to_owned()));
         let words = "expected a cell's number, found `x`";
         assert_eq!(CELL.read("x"), Err(words.to_owned()));

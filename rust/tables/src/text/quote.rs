@@ -4,7 +4,7 @@
 const LONG: usize = 32;
 
 /// The word in quotes: its first characters, if it is long, and none that does not print.
-pub(super) fn quoted(word: &str) -> String {
+pub fn quoted(word: &str) -> String {
     let mut shown: String = word
         .chars()
         .take(LONG)

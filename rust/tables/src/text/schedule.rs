@@ -33,7 +33,7 @@ mod tests {
         assert_eq!(wrong("0\n#1"), format!("1:3: {actor}, found `#1`"));
         assert_eq!(
             wrong("1 256"),
-            "1:3: `256` is too large for an actor's number: at most 7"
+            "1:3: `256` is too large for an actor's number: at most 255"
         );
     }
 }

@@ -125,7 +125,7 @@ fn mistakes_of_the_counts() {
     );
     assert_eq!(
         mistake("actors 1\n mailboxes 256"),
-        "2:12: `256` is too large for the number of mailboxes: at most 8"
+        "2:12: `256` is too large for the number of mailboxes: at most 255"
     );
     assert_eq!(
         mistake("actors 1\nmailboxes 1\n"),
@@ -190,7 +190,7 @@ fn mistakes_of_an_action() {
     );
     assert_eq!(
         wrong("add 0 256"),
-        "7: `256` is too large for a cell's number: at most 7"
+        "7: `256` is too large for a cell's number: at most 255"
     );
     assert_eq!(
         wrong("set 0 4294967296"),
@@ -237,7 +237,7 @@ fn mistakes_of_a_list() {
     );
     assert_eq!(
         wrong("mutex-wait 0 [0x100]"),
-        "15: `0x100` is too large for a mutex's number: at most 7"
+        "15: `0x100` is too large for a mutex's number: at most 255"
     );
     assert_eq!(
         wrong("wait 0 [0] 1"),
