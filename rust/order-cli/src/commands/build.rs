@@ -67,7 +67,8 @@ fn built(text: &Source) -> Result<Built, Failure> {
         )));
     }
     decode(text).and_then(build).map_err(|mistake| {
-        let hint = exchanged(text).map_or_else(String::new, |words| words + "\n");
+        let hint = exchanged(text).map(|words| format!("{words}; order show makes a text of it\n"));
+        let hint = hint.unwrap_or_default();
         Failure::Trouble(format!("{name}:{mistake}\n{hint}"))
     })
 }
