@@ -1,0 +1,123 @@
+//! Files that are written: whole or not at all, whatever fails.
+
+use crate::lost::Lost;
+use crate::shell::{forecourt, shell};
+use order_cli::answer::Failure;
+use order_cli::draft::Draft;
+use std::collections::BTreeMap;
+use std::fs;
+use std::os::unix::fs::PermissionsExt;
+use std::path::{Path, PathBuf};
+use std::process::Stdio;
+use std::sync::atomic::{AtomicBool, Ordering};
+use std::thread;
+
+/// A command line of each sub-command that writes a file, without the file's name.
+const WRITERS: [&str; 3] = [
+    "order run loyalty-first/site.tab --text \"0 0\" --report",
+    "order draw loyalty-first/site.tab 7 --out",
+    "order build site.txt",
+];
+
+/// What a folder holds: each file's name, with its bytes.
+fn held(folder: &Path) -> BTreeMap<PathBuf, Vec<u8>> {
+    let entries = fs::read_dir(folder).expect("a folder");
+    let paths = entries.map(|entry| entry.expect("an entry").path());
+    let files = paths.filter(|path| path.is_file());
+    files
+        .map(|path| (path.clone(), fs::read(path).expect("a file")))
+        .collect()
+}
+
+#[test]
+fn nothing_changes_where_anything_fails() {
+    let folder = forecourt("kept");
+    for writer in WRITERS {
+        for file in ["older", "absent", "absent/file", "loyalty-first"] {
+            fs::write(folder.join("older"), "older").expect("a file");
+            let before = held(&folder);
+            let line = format!("{writer} {file}");
+            for lost in Lost::ALL {
+                let mut shell = shell(&folder, &(line.clone() + &lost.redirection(1)));
+                let ended = shell.stdout(lost.stream()).stderr(Stdio::null()).status();
+                assert_eq!(ended.expect("an end").code(), Some(2), "{line}: {lost:?}");
+                assert_eq!(held(&folder), before, "{line}: {lost:?}");
+            }
+            let ended = shell(&folder, &format!("ulimit -f 0; {line}")).output();
+            let ended = ended.expect("an end");
+            assert_eq!(ended.status.code(), Some(2), "{line}");
+            assert_eq!(ended.stdout, b"", "{line}");
+            let begin = format!("order: cannot write {file}: ");
+            assert!(ended.stderr.starts_with(begin.as_bytes()), "{line}");
+            assert_eq!(held(&folder), before, "{line}");
+        }
+    }
+}
+
+#[test]
+fn a_file_is_replaced_whole() {
+    let folder = forecourt("replaced");
+    for writer in WRITERS {
+        let line = format!("{writer} new && {writer} old");
+        let old = folder.join("old");
+        fs::write(&old, "o".repeat(10_000)).expect("a file");
+        fs::set_permissions(&old, fs::Permissions::from_mode(0o604)).expect("a mode");
+        let before = held(&folder).len();
+        let ended = shell(&folder, &line).output().expect("an end");
+        assert!(ended.status.success(), "{line}");
+        let new = fs::read(folder.join("new")).expect("a file");
+        assert_eq!(fs::read(&old).expect("a file"), new);
+        let mode = fs::metadata(&old).expect("a file").permissions().mode();
+        assert_eq!(mode & 0o7777, 0o604);
+        assert_eq!(held(&folder).len(), before + 1);
+        fs::remove_file(folder.join("new")).expect("a file");
+    }
+}
+
+#[test]
+fn a_reader_meanwhile_sees_a_whole_file() {
+    let folder = forecourt("read");
+    let load = folder.join("load");
+    let mut whole = Vec::new();
+    for seed in 0..2 {
+        let line = format!("order draw loyalty-first/site.tab {seed} --out load");
+        assert!(
+            shell(&folder, &line)
+                .output()
+                .expect("an end")
+                .status
+                .success()
+        );
+        whole.push(fs::read(&load).expect("a file"));
+    }
+    let ends = AtomicBool::new(false);
+    thread::scope(|scope| {
+        scope.spawn(|| {
+            for seed in 0..40 {
+                let line = format!("order draw loyalty-first/site.tab {} --out load", seed % 2);
+                shell(&folder, &line).output().expect("an end");
+            }
+            ends.store(true, Ordering::Relaxed);
+        });
+        while !ends.load(Ordering::Relaxed) {
+            let seen = fs::read(&load).expect("a file");
+            assert!(whole.contains(&seen), "{seen:?}");
+        }
+    });
+}
+
+#[test]
+fn a_draft_that_is_not_put_in_its_place() {
+    let folder = forecourt("drafts");
+    let (before, place) = (held(&folder), folder.join("place"));
+    drop(Draft::of(&place, b"new").expect("a draft"));
+    assert_eq!(held(&folder), before);
+    let draft = Draft::of(&place, b"new").expect("a draft");
+    fs::create_dir(&place).expect("a folder");
+    let words = match draft.put() {
+        Err(Failure::Trouble(words)) => words,
+        other => panic!("{other:?}"),
+    };
+    assert!(words.starts_with("order: cannot write "), "{words}");
+    assert_eq!(held(&folder), before);
+}
