@@ -110,11 +110,10 @@ impl Said {
             mut status,
             draft,
         } = self;
-        let printed = write(streams::output, &output).map_err(|error| {
-            Failure::Trouble(format!("order: cannot write standard output: {error}\n"))
-        });
+        let printed = write(streams::output, &output)
+            .map_err(|error| format!("order: cannot write standard output: {error}\n"));
         let done = printed.and_then(|()| draft.map_or(Ok(()), Draft::put));
-        if let Err(Failure::Refused(words) | Failure::Use(words) | Failure::Trouble(words)) = done {
+        if let Err(words) = done {
             errors += &words;
             status = WRONG_USE;
         }

@@ -44,8 +44,10 @@ impl Draft {
             Ok(None) => write_as_it_is(path, bytes),
             Err(error) => Err(error),
         };
-        written.map_err(|error| cannot_write(path, &error))?;
-        Ok(draft)
+        match written {
+            Ok(()) => Ok(draft),
+            Err(error) => Err(Failure::Trouble(cannot_write(path, &error))),
+        }
     }
 
     /// Writes the bytes beside the place, with the mode of the file that stands there.
@@ -59,8 +61,8 @@ impl Draft {
         file.sync_all()
     }
 
-    /// Puts the file in its place.
-    pub fn put(mut self) -> Result<(), Failure> {
+    /// Puts the file in its place; otherwise says why not.
+    pub fn put(mut self) -> Result<(), String> {
         let Some((path, place)) = &self.waits else {
             return Ok(());
         };
@@ -78,9 +80,8 @@ impl Drop for Draft {
     }
 }
 
-fn cannot_write(path: &Path, error: &io::Error) -> Failure {
-    let path = shown(path);
-    Failure::Trouble(format!("order: cannot write {path}: {error}\n"))
+fn cannot_write(path: &Path, error: &io::Error) -> String {
+    format!("order: cannot write {}: {error}\n", shown(path))
 }
 
 fn write_as_it_is(path: &Path, bytes: &[u8]) -> io::Result<()> {

@@ -69,7 +69,7 @@ fn statuses(commands: &[&Command]) -> String {
     format!(
         "exit status\n\
         \x20 0  {answered}\n\
-        \x20 1  refused: number, position and reason are on standard error\n\
+        \x20 1  refused: number, position, file and reason are on standard error\n\
         \x20 2  wrong use, a file or an output that cannot be read or written, or a mistake in a text\n\
         {last}"
     )

@@ -2,7 +2,6 @@
 
 use crate::lost::Lost;
 use crate::shell::{forecourt, shell};
-use order_cli::answer::Failure;
 use order_cli::draft::Draft;
 use std::collections::BTreeMap;
 use std::fs;
@@ -114,10 +113,7 @@ fn a_draft_that_is_not_put_in_its_place() {
     assert_eq!(held(&folder), before);
     let draft = Draft::of(&place, b"new").expect("a draft");
     fs::create_dir(&place).expect("a folder");
-    let words = match draft.put() {
-        Err(Failure::Trouble(words)) => words,
-        other => panic!("{other:?}"),
-    };
+    let words = draft.put().expect_err("a folder stands there");
     assert!(words.starts_with("order: cannot write "), "{words}");
     assert_eq!(held(&folder), before);
 }
