@@ -110,14 +110,14 @@ impl Said {
             mut status,
             draft,
         } = self;
-        let printed = write(streams::output, &output)
+        let printed = write(&streams::output(), &output)
             .map_err(|error| format!("order: cannot write standard output: {error}\n"));
         let done = printed.and_then(|()| draft.map_or(Ok(()), Draft::put));
         if let Err(words) = done {
             errors += &words;
             status = WRONG_USE;
         }
-        let _ = write(streams::errors, &errors);
+        let _ = write(&streams::errors(), &errors);
         ExitCode::from(status)
     }
 }
@@ -133,10 +133,6 @@ impl From<Answer> for Said {
     }
 }
 
-/// Writes words, if there are any.
-fn write(stream: fn() -> io::Result<File>, words: &str) -> io::Result<()> {
-    match words.is_empty() {
-        true => Ok(()),
-        false => stream()?.write_all(words.as_bytes()),
-    }
+fn write(mut stream: &File, words: &str) -> io::Result<()> {
+    stream.write_all(words.as_bytes())
 }

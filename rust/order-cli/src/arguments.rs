@@ -2,26 +2,28 @@
 
 use crate::answer::Failure;
 use crate::help;
-use crate::operand::Choice;
+use crate::operand::{Choice, QUIET};
 use crate::shown::shown;
 use std::ffi::{OsStr, OsString};
 use std::os::unix::ffi::OsStrExt;
+use std::slice::Iter;
+use tables::text::quoted;
 
 /// Gives a schedule in text.
 pub const TEXT: &str = "--text";
 
-/// Ends options: what follows is an operand, whatever it looks like.
+/// Ends options: what follows is none, whatever it looks like.
 pub const END: &str = "--";
 
-/// An argument, with what belongs to it.
-#[derive(Clone, Copy, Debug)]
-pub enum Argument<'a> {
-    /// An operand.
-    Operand(Word<'a>),
-    /// An option, with its value where it has one.
-    Option(&'static Choice, Option<&'a OsStr>),
-    /// A word that asks for help.
-    Help(&'a OsStr),
+/// The arguments of a sub-command.
+#[derive(Clone, Debug, Default)]
+pub struct Arguments<'a> {
+    /// The operands.
+    pub operands: Vec<Word<'a>>,
+    /// The options, each with its value where it has one.
+    pub options: Vec<(&'static Choice, Option<&'a OsStr>)>,
+    /// The word that asks for help.
+    pub help: Option<&'a OsStr>,
 }
 
 /// An operand as it was given.
@@ -33,72 +35,99 @@ pub enum Word<'a> {
     Text(&'a OsStr),
 }
 
-/// Tells the arguments of a sub-command with these options apart.
-pub fn told_apart<'a>(
-    options: &'static [Choice],
-    arguments: &'a [OsString],
-) -> Result<Vec<Argument<'a>>, Failure> {
-    let mut told = Vec::new();
-    let mut rest = arguments.iter().map(OsString::as_os_str);
-    while let Some(argument) = rest.next() {
-        if argument == END {
-            told.extend(
-                rest.by_ref()
-                    .map(|word| Argument::Operand(Word::Plain(word))),
-            );
-            break;
+impl<'a> Arguments<'a> {
+    /// Tells the arguments of a sub-command with these options apart.
+    pub fn of(options: &'static [Choice], arguments: &'a [OsString]) -> Result<Self, Failure> {
+        let mut told = Self::default();
+        let mut rest = Rest {
+            words: arguments.iter(),
+            is_ended: false,
+        };
+        while let Some(word) = rest.next() {
+            if rest.is_ended || !looks_like_option(word) {
+                told.operands.push(Word::Plain(word));
+            } else {
+                told.take(options, word, &mut rest)?;
+            }
         }
-        let (name, value) = parted(argument);
-        let option = options.iter().find(|one| name == one.name);
-        told.push(if help::asked(argument) {
-            Argument::Help(argument)
+        Ok(told)
+    }
+
+    /// Adds what looks like an option, with its value.
+    fn take(
+        &mut self,
+        options: &'static [Choice],
+        word: &'a OsStr,
+        rest: &mut Rest<'a>,
+    ) -> Result<(), Failure> {
+        let (name, value) = split(word);
+        let choice = options.iter().find(|one| name == one.name);
+        if help::asked(word) {
+            self.help = Some(word);
         } else if name == TEXT {
-            let text = value_of(TEXT, "a text", value, &mut rest)?;
-            Argument::Operand(Word::Text(text))
-        } else if let Some(choice) = option {
-            Argument::Option(choice, chosen(choice, value, &mut rest)?)
-        } else if looks_like_option(argument) {
-            return wrong(format!("there is no option `{}`", shown(argument)));
+            let text = rest.value(TEXT, "a text", value)?;
+            self.operands.push(Word::Text(text));
+        } else if let Some(choice) = choice {
+            let value = match (choice.target, value) {
+                (Some(target), _) => Some(rest.value(choice.name, target, value)?),
+                (None, None) => None,
+                (None, Some(_)) => return wrong(format!("{} takes no value", choice.name)),
+            };
+            self.options.push((choice, value));
         } else {
-            Argument::Operand(Word::Plain(argument))
-        });
-    }
-    Ok(told)
-}
-
-/// The value of an option that has one.
-fn chosen<'a>(
-    choice: &Choice,
-    value: Option<&'a OsStr>,
-    rest: &mut impl Iterator<Item = &'a OsStr>,
-) -> Result<Option<&'a OsStr>, Failure> {
-    match (choice.target, value) {
-        (Some(target), _) => value_of(choice.name, target, value, rest).map(Some),
-        (None, None) => Ok(None),
-        (None, Some(_)) => wrong(format!("{} takes no value", choice.name)),
-    }
-}
-
-/// The value of `option`: what stands after its `=`, or else the next argument. One that looks like an
-/// option is taken for a value that was forgotten.
-fn value_of<'a>(
-    option: &str,
-    what: &str,
-    value: Option<&'a OsStr>,
-    rest: &mut impl Iterator<Item = &'a OsStr>,
-) -> Result<&'a OsStr, Failure> {
-    if let Some(value) = value {
-        return Ok(value);
-    }
-    match rest.next() {
-        Some(next) if looks_like_option(next) => {
-            let next = shown(next);
-            wrong(format!(
-                "{what} is missing after {option}: `{next}` looks like an option, {option}={next} gives it"
-            ))
+            return wrong(format!("there is no option `{}`", shown(word)));
         }
-        Some(next) => Ok(next),
-        None => wrong(format!("{what} is missing after {option}")),
+        Ok(())
+    }
+
+    /// Whether help is asked for. Where the exit status is a verdict, help would be taken for one.
+    pub fn want_help(&self) -> Result<bool, Failure> {
+        let by_status = self.options.iter().any(|(one, _)| one.verdicts.is_some());
+        match self.help {
+            Some(word) if by_status => wrong(format!(
+                "{0} asks for help, which {QUIET} leaves no room for; a file called {0} is given after {END}",
+                shown(word)
+            )),
+            help => Ok(help.is_some()),
+        }
+    }
+}
+
+/// The arguments that are left.
+struct Rest<'a> {
+    words: Iter<'a, OsString>,
+    is_ended: bool,
+}
+
+impl<'a> Rest<'a> {
+    /// The next one; what ends options is none.
+    fn next(&mut self) -> Option<&'a OsStr> {
+        let word = self.words.next()?;
+        if self.is_ended || word != END {
+            return Some(word);
+        }
+        self.is_ended = true;
+        self.next()
+    }
+
+    /// The value of `option`: what is joined to it, or else the next argument. One that looks like an
+    /// option is taken for a value that was forgotten.
+    fn value(
+        &mut self,
+        option: &str,
+        what: &str,
+        joined: Option<&'a OsStr>,
+    ) -> Result<&'a OsStr, Failure> {
+        match joined.or_else(|| self.next()) {
+            Some(next) if joined.is_none() && !self.is_ended && looks_like_option(next) => {
+                let next = quoted(&next.to_string_lossy());
+                wrong(format!(
+                    "{what} is missing after {option}: {next} looks like an option, and is none after {option}= or {END}"
+                ))
+            }
+            Some(value) => Ok(value),
+            None => wrong(format!("{what} is missing after {option}")),
+        }
     }
 }
 
@@ -107,15 +136,14 @@ fn looks_like_option(argument: &OsStr) -> bool {
 }
 
 /// An option's name, and its value where that is joined to it by `=`.
-fn parted(argument: &OsStr) -> (&OsStr, Option<&OsStr>) {
-    let bytes = argument.as_bytes();
-    let sign = bytes.iter().position(|&byte| byte == b'=');
-    match sign {
-        Some(at) if bytes.starts_with(b"--") => {
+fn split(option: &OsStr) -> (&OsStr, Option<&OsStr>) {
+    let bytes = option.as_bytes();
+    match bytes.iter().position(|&byte| byte == b'=') {
+        Some(at) => {
             let [name, value] = [&bytes[..at], &bytes[at + 1..]].map(OsStr::from_bytes);
             (name, Some(value))
         }
-        _ => (argument, None),
+        None => (option, None),
     }
 }
 

@@ -2,12 +2,11 @@
 //! Until then, and where anything fails, an older file stays as it was.
 
 use crate::answer::Failure;
-use crate::files::are_one;
 use crate::shown::shown;
-use std::fs::{self, File, Metadata};
+use std::fs::{self, File, Metadata, Permissions};
 use std::io::{self, Write};
 use std::os::unix::ffi::OsStrExt;
-use std::os::unix::fs::{MetadataExt, OpenOptionsExt, fchown};
+use std::os::unix::fs::{MetadataExt, OpenOptionsExt, PermissionsExt, fchown};
 use std::path::{Path, PathBuf};
 use std::process;
 
@@ -44,10 +43,11 @@ impl Draft {
             Ok(None) => write_as_it_is(path, bytes),
             Err(error) => Err(error),
         };
-        match written {
-            Ok(()) => Ok(draft),
-            Err(error) => Err(Failure::Trouble(cannot_write(path, &error))),
-        }
+        written.map_err(|error| {
+            let path = shown(path);
+            Failure::Trouble(format!("order: cannot write {path}: {error}\n"))
+        })?;
+        Ok(draft)
     }
 
     /// Writes the bytes beside the place, with the mode of the file that stands there.
@@ -66,7 +66,10 @@ impl Draft {
         let Some((path, place)) = &self.waits else {
             return Ok(());
         };
-        fs::rename(path, place).map_err(|error| cannot_write(&self.named, &error))?;
+        fs::rename(path, place).map_err(|error| {
+            let named = shown(&self.named);
+            format!("order: cannot write {named}, which is as it was: {error}\n")
+        })?;
         self.waits = None;
         Ok(())
     }
@@ -80,35 +83,39 @@ impl Drop for Draft {
     }
 }
 
-fn cannot_write(path: &Path, error: &io::Error) -> String {
-    format!("order: cannot write {}: {error}\n", shown(path))
-}
-
 fn write_as_it_is(path: &Path, bytes: &[u8]) -> io::Result<()> {
     let mut file = File::options().write(true).truncate(true).open(path)?;
     file.write_all(bytes)
 }
 
 /// Where a file of this name is put; `None` where no rename can put it: a device, a FIFO, a folder, an
-/// open file without a name.
+/// open file without a name. A file that has a name is never written as it is.
 fn place(path: &Path) -> io::Result<Option<Place>> {
-    let old = match fs::metadata(path) {
-        Ok(old) if !old.is_file() => return Ok(None),
-        Ok(old) => Some(old),
-        Err(error) if error.kind() == io::ErrorKind::NotFound => None,
-        Err(error) => return Err(error),
+    let is_there = match found(path)? {
+        Some(old) if !old.is_file() || old.nlink() == 0 => return Ok(None),
+        old => old.is_some(),
     };
-    if old.is_some() {
+    if is_there {
         // A file that may not be written is not replaced either.
         File::options().write(true).open(path)?;
     }
-    let path = behind_links(path);
-    let is_it = match (&old, fs::metadata(&path)) {
-        (Some(old), Ok(found)) => are_one(old, &found),
-        (None, Err(_)) => ends_in_name(&path),
-        _ => false,
-    };
-    Ok(is_it.then_some(Place { path, old }))
+    let place = behind_links(path);
+    // Others may write the same file meanwhile: it counts what stands there now.
+    match found(&place)? {
+        Some(old) if !old.is_file() => Ok(None),
+        None if is_there && place != path => Err(io::ErrorKind::NotFound.into()),
+        None if !ends_in_name(&place) => Ok(None),
+        old => Ok(Some(Place { path: place, old })),
+    }
+}
+
+/// What stands there.
+fn found(path: &Path) -> io::Result<Option<Metadata>> {
+    match fs::metadata(path) {
+        Ok(found) => Ok(Some(found)),
+        Err(error) if error.kind() == io::ErrorKind::NotFound => Ok(None),
+        Err(error) => Err(error),
+    }
 }
 
 /// Whether a path ends in a name, and not in a dot or a slash.
@@ -153,12 +160,23 @@ fn beside(place: &Place) -> io::Result<(PathBuf, File)> {
     Err(taken)
 }
 
-/// Gives the file the mode of the old one, and its owner and group where the system allows that.
+/// Gives the file the mode of the old one, and its owner and group where the system allows that. What
+/// lets others run it as its owner or group stays only with these.
 fn keep(file: &File, old: &Metadata) -> io::Result<()> {
-    let new = file.metadata()?;
-    let (owner, group) = (Some(old.uid()), Some(old.gid()));
-    if (Some(new.uid()), Some(new.gid())) != (owner, group) {
-        let _ = fchown(file, owner, group).or_else(|_| fchown(file, None, group));
+    let owner = |file: &Metadata| (Some(file.uid()), Some(file.gid()));
+    let (user, group) = owner(old);
+    if owner(&file.metadata()?) != (user, group) {
+        let _ = fchown(file, user, group).or_else(|_| fchown(file, None, group));
     }
-    file.set_permissions(old.permissions())
+    let new = file.metadata()?;
+    let bits = if owner(&new) == owner(old) {
+        0o7777
+    } else {
+        0o777
+    };
+    let mode = old.mode() & bits;
+    match new.mode() & 0o7777 == mode {
+        true => Ok(()),
+        false => file.set_permissions(Permissions::from_mode(mode)),
+    }
 }

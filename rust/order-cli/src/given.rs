@@ -1,7 +1,7 @@
 //! What was given to a sub-command: each operand that it declares once, and some of its options.
 
 use crate::answer::Failure;
-use crate::arguments::{Argument, TEXT, Word, wrong};
+use crate::arguments::{Arguments, TEXT, Word, wrong};
 use crate::files::are_one;
 use crate::operand::{Choice, Operand, Sort};
 use crate::refusals::exchanged;
@@ -9,7 +9,7 @@ use crate::shown::shown;
 use crate::source::{ENOUGH, Source};
 use order_engine::StepName;
 use std::ffi::OsStr;
-use std::fs::{self, File, Metadata};
+use std::fs::{self, Metadata};
 use std::io;
 use std::path::Path;
 use tables::text::{ACTION, ACTOR, Number, quoted};
@@ -26,14 +26,13 @@ pub struct Given<'a> {
 
 impl<'a> Given<'a> {
     /// What these arguments give to a sub-command with these operands.
-    pub fn of(operands: &'static [Operand], arguments: &[Argument<'a>]) -> Result<Self, Failure> {
+    pub fn of(operands: &'static [Operand], arguments: &Arguments<'a>) -> Result<Self, Failure> {
         let mut given = Self::default();
-        for argument in arguments {
-            match *argument {
-                Argument::Operand(word) => given.add(operands, word)?,
-                Argument::Option(choice, value) => given.choose(choice, value)?,
-                Argument::Help(_) => {}
-            }
+        for &word in &arguments.operands {
+            given.add(operands, word)?;
+        }
+        for &(choice, value) in &arguments.options {
+            given.choose(choice, value)?;
         }
         if let Some(missing) = operands.get(given.operands.len()) {
             return wrong(format!("{} is missing", missing.name));
@@ -169,7 +168,7 @@ impl<'a> Given<'a> {
             .or_else(|words| self.no_number(operand, words))
     }
 
-    /// Wrong use of an operand that names no file, also where it does.
+    /// Wrong use: an operand that should be a number. It may name a table that belongs elsewhere.
     fn no_number<T>(&self, operand: &Operand, words: String) -> Result<T, Failure> {
         let is_file = fs::metadata(self.path(operand)).is_ok_and(|found| found.is_file());
         let file = is_file.then(|| self.file(operand).ok()).flatten();
@@ -194,9 +193,8 @@ impl<'a> Given<'a> {
 
 /// What the words go to.
 fn streams() -> impl Iterator<Item = (&'static str, io::Result<Metadata>)> {
-    let found = |stream: io::Result<File>| stream.and_then(|file| file.metadata());
-    let output = ("standard output", found(streams::output()));
-    let errors = ("standard error", found(streams::errors()));
+    let output = ("standard output", streams::output().metadata());
+    let errors = ("standard error", streams::errors().metadata());
     [output, errors].into_iter()
 }
 

@@ -1,7 +1,5 @@
 //! The help: of the whole, and of each sub-command.
 
-use crate::answer::Failure;
-use crate::arguments::{Argument, END, wrong};
 use crate::command::Command;
 use crate::commands;
 use crate::operand::QUIET;
@@ -16,26 +14,6 @@ pub const HELP: &str = "--help";
 /// Whether the argument asks for help.
 pub fn asked(argument: &OsStr) -> bool {
     argument == HELP || argument == "-h"
-}
-
-/// Whether these arguments ask for help. Where the exit status is a verdict, help would be taken for
-/// one.
-pub fn wanted(arguments: &[Argument]) -> Result<bool, Failure> {
-    let mut asks = arguments.iter().filter_map(|argument| match argument {
-        Argument::Help(word) => Some(word),
-        Argument::Operand(_) | Argument::Option(..) => None,
-    });
-    let by_status = arguments.iter().any(|argument| match argument {
-        Argument::Option(choice, _) => choice.verdicts.is_some(),
-        Argument::Operand(_) | Argument::Help(_) => false,
-    });
-    match asks.next() {
-        Some(word) if by_status => wrong(format!(
-            "{0} asks for help, which {QUIET} leaves no room for; a file called {0} is given after {END}",
-            shown(word)
-        )),
-        asked => Ok(asked.is_some()),
-    }
 }
 
 /// What the command is, and its sub-commands.

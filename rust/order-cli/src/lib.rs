@@ -39,7 +39,7 @@ pub mod waits;
 pub mod words;
 
 use answer::{Answer, Failure, Said};
-use arguments::told_apart;
+use arguments::Arguments;
 use command::Command;
 use given::Given;
 use std::ffi::OsString;
@@ -67,8 +67,8 @@ pub fn answer(arguments: &[OsString]) -> Said {
 
 /// What a sub-command answers to these arguments.
 fn of(command: &Command, arguments: &[OsString]) -> Result<Answer, Failure> {
-    let arguments = told_apart(command.options, arguments)?;
-    if help::wanted(&arguments)? {
+    let arguments = Arguments::of(command.options, arguments)?;
+    if arguments.want_help()? {
         return Ok(Answer::of(help::of(command)));
     }
     (command.run)(&Given::of(command.operands, &arguments)?)

@@ -15,6 +15,9 @@ use tables::text::{Mistake, quoted, schedule};
 /// follows, and so is a schedule: none that is accepted is as long.
 pub const ENOUGH: usize = LONGEST + 1;
 
+/// The bytes that are counted of what tells no length.
+pub const COUNTED: u64 = 1 << 20;
+
 /// What was read.
 #[derive(Clone, PartialEq, Eq, Debug)]
 pub struct Source {
@@ -93,16 +96,27 @@ impl Deref for Source {
 
 /// The first bytes of a file, and how many it has.
 fn read(path: &Path, most: usize) -> io::Result<(Vec<u8>, Length)> {
-    let file = File::open(path)?;
+    let mut file = File::open(path)?;
     let mut bytes = Vec::new();
-    (&file).take(most as u64).read_to_end(&mut bytes)?;
+    (&mut file).take(most as u64).read_to_end(&mut bytes)?;
     let found = bytes.len() as u64;
+    if bytes.len() < most {
+        return Ok((bytes, Length::Exactly(found)));
+    }
     let said = file.metadata()?;
-    let length = match bytes.len() < most {
-        true => Length::Exactly(found),
-        // A file that is none on a disk, as a pipe, says no length, or one that is too small.
-        false if said.is_file() && said.len() >= found => Length::Exactly(said.len()),
-        false => Length::Over(found - 1),
+    let length = match said.is_file() && said.len() >= found {
+        true => Length::Exactly(said.len()),
+        false => counted(found, file)?,
     };
     Ok((bytes, length))
+}
+
+/// The length of what tells none, as a pipe: these bytes, and those that are left.
+fn counted(bytes: u64, file: File) -> io::Result<Length> {
+    let left = COUNTED.saturating_sub(bytes) + 1;
+    let more = io::copy(&mut file.take(left), &mut io::sink())?;
+    Ok(match more < left {
+        true => Length::Exactly(bytes + more),
+        false => Length::Over(COUNTED),
+    })
 }

@@ -50,15 +50,15 @@ actor 2: 2 actions
 
 fn run(given: &Given) -> Result<Answer, Failure> {
     let text = Source::of_file(&TEXT, given.path(&TEXT), LONGEST_TEXT + 1)?;
-    let built = built(&text)?;
-    let table = accepted(&text, &built)?;
     let target = given.path(&TARGET);
+    let built = built(&text, target.exists())?;
+    let table = accepted(&text, &built)?;
     let words = format!("wrote {}: {}", shown(target), table.summary());
     Answer::of(words).with_file(target, &table.bytes)
 }
 
 /// What the text describes.
-fn built(text: &Source) -> Result<Built, Failure> {
+fn built(text: &Source, is_target_there: bool) -> Result<Built, Failure> {
     let name = text.name();
     if text.len() > LONGEST_TEXT {
         let length = text.length();
@@ -67,8 +67,11 @@ fn built(text: &Source) -> Result<Built, Failure> {
         )));
     }
     decode(text).and_then(build).map_err(|mistake| {
-        let hint = exchanged(text).map(|words| format!("{words}; order show makes a text of it\n"));
-        let hint = hint.unwrap_or_default();
+        let hint = match exchanged(text) {
+            Some(words) if is_target_there => words + "\n",
+            Some(_) => "this is a table: order show makes a text of it\n".to_owned(),
+            None => String::new(),
+        };
         Failure::Trouble(format!("{name}:{mistake}\n{hint}"))
     })
 }

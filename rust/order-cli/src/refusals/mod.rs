@@ -95,18 +95,24 @@ impl<'a> Asked<'a> {
 
     /// What a refusal is about.
     fn about(&self, reason: Reason) -> impl Iterator<Item = &'a Source> {
-        let about = match reason {
-            Reason::NoActor | Reason::Finished | Reason::NotReady | Reason::Over => {
-                [self.first, None]
-            }
+        let about = match self.stepped(reason) {
+            Some(schedule) => [Some(schedule), None],
+            None if reason == Reason::Different => [self.first, self.second],
+            None => [Some(self.table), None],
+        };
+        about.into_iter().flatten()
+    }
+
+    /// The schedule whose entry is refused, where one is.
+    fn stepped(&self, reason: Reason) -> Option<&'a Source> {
+        match reason {
+            Reason::NoActor | Reason::Finished | Reason::NotReady | Reason::Over => self.first,
             Reason::SecondNoActor
             | Reason::SecondFinished
             | Reason::SecondNotReady
-            | Reason::SecondOver => [None, self.second],
-            Reason::Different => [self.first, self.second],
-            _ => [Some(self.table), None],
-        };
-        about.into_iter().flatten()
+            | Reason::SecondOver => self.second,
+            _ => None,
+        }
     }
 }
 
@@ -123,19 +129,15 @@ pub fn pointed(refusal: Refusal, asked: &Asked) -> String {
             let layout = Layout::of(asked.table);
             layout.map_or_else(String::new, |layout| action::words(refusal, &layout))
         }
-        Reason::NoActor | Reason::Finished | Reason::NotReady | Reason::Over => {
-            of_entry(asked, asked.first, index)
-        }
-        Reason::SecondNoActor
-        | Reason::SecondFinished
-        | Reason::SecondNotReady
-        | Reason::SecondOver => of_entry(asked, asked.second, index),
         Reason::NoStep => of_table(asked, |table| name::words(&table.layout, asked.steps)),
         Reason::Different => of_table(asked, |table| match (asked.first, asked.second) {
             (Some(first), Some(second)) => difference_of(table, first, second),
             _ => String::new(),
         }),
-        _ => String::new(),
+        reason => match asked.stepped(reason) {
+            Some(schedule) => of_table(asked, |table| entry::words(table, schedule, index)),
+            None => String::new(),
+        },
     }
 }
 
@@ -151,11 +153,4 @@ fn difference_of(table: &Table, first: &[u8], second: &[u8]) -> String {
 fn of_table(asked: &Asked, words: impl FnOnce(&Table) -> String) -> String {
     let table = Table::of(asked.table).ok();
     table.as_ref().map_or_else(String::new, words)
-}
-
-/// Words about an entry of a schedule.
-fn of_entry(asked: &Asked, schedule: Option<&Source>, index: usize) -> String {
-    schedule.map_or_else(String::new, |schedule| {
-        of_table(asked, |table| entry::words(table, schedule, index))
-    })
 }

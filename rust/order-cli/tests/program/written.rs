@@ -8,7 +8,7 @@ use std::fs;
 use std::os::unix::fs::PermissionsExt;
 use std::path::{Path, PathBuf};
 use std::process::Stdio;
-use std::sync::atomic::{AtomicBool, Ordering};
+use std::sync::atomic::{AtomicUsize, Ordering};
 use std::thread;
 
 /// A command line of each sub-command that writes a file, without the file's name.
@@ -75,34 +75,41 @@ fn a_file_is_replaced_whole() {
 
 #[test]
 fn a_reader_meanwhile_sees_a_whole_file() {
+    const WRITTEN: usize = 20;
     let folder = forecourt("read");
     let load = folder.join("load");
-    let mut whole = Vec::new();
-    for seed in 0..2 {
+    let write = |seed: usize| {
         let line = format!("order draw loyalty-first/site.tab {seed} --out load");
-        assert!(
-            shell(&folder, &line)
-                .output()
-                .expect("an end")
-                .status
-                .success()
-        );
-        whole.push(fs::read(&load).expect("a file"));
-    }
-    let ends = AtomicBool::new(false);
+        let ended = shell(&folder, &line).output().expect("an end");
+        assert!(ended.status.success(), "{ended:?}");
+    };
+    let whole: Vec<Vec<u8>> = (0..6)
+        .map(|seed| {
+            write(seed);
+            fs::read(&load).expect("a file")
+        })
+        .collect();
+    let writers = AtomicUsize::new(whole.len());
     thread::scope(|scope| {
-        scope.spawn(|| {
-            for seed in 0..40 {
-                let line = format!("order draw loyalty-first/site.tab {} --out load", seed % 2);
-                shell(&folder, &line).output().expect("an end");
-            }
-            ends.store(true, Ordering::Relaxed);
-        });
-        while !ends.load(Ordering::Relaxed) {
+        for seed in 0..whole.len() {
+            let (write, writers) = (&write, &writers);
+            scope.spawn(move || {
+                (0..WRITTEN).for_each(|_| write(seed));
+                writers.fetch_sub(1, Ordering::Relaxed);
+            });
+        }
+        while writers.load(Ordering::Relaxed) > 0 {
             let seen = fs::read(&load).expect("a file");
             assert!(whole.contains(&seen), "{seen:?}");
         }
     });
+    assert!(held(&folder).keys().all(|path| !is_beside(path)));
+}
+
+/// Whether a file is one that was written beside.
+fn is_beside(path: &Path) -> bool {
+    let name = path.file_name().expect("a name").as_encoded_bytes();
+    name.starts_with(b".order-")
 }
 
 #[test]
