@@ -75,7 +75,7 @@ fn a_file_is_replaced_whole() {
 
 #[test]
 fn a_reader_meanwhile_sees_a_whole_file() {
-    const WRITTEN: usize = 20;
+    const WRITTEN: usize = 60;
     let folder = forecourt("read");
     let load = folder.join("load");
     let write = |seed: usize| {
