@@ -27,8 +27,8 @@ pub fn overview() -> String {
     text += "\n`order COMMAND --help` says more.\n\n";
     text += "A schedule is a file with a byte for each entry, the number of an actor; or, in its place,\n\
         a text: --text \"0 1 0 1\".\n\n";
-    text += "Options may stand anywhere, and `--` ends them: what follows it is no option. What belongs to an\n\
-        option follows it, or is joined to it by =, as it has to be where it begins with a dash.\n\n";
+    text += "Options may stand anywhere, and -- ends them: what follows it is none. A value that begins with\n\
+        a dash is joined to its option by =, as in --out=-load.\n\n";
     text + &statuses(commands::ALL)
 }
 
