@@ -2,6 +2,7 @@
 //! Until then, and where anything fails, an older file stays as it was.
 
 use crate::answer::Failure;
+use crate::files::are_one;
 use crate::shown::shown;
 use std::fs::{self, File, Metadata, Permissions};
 use std::io::{self, Write};
@@ -15,6 +16,9 @@ const LINKS: usize = 40;
 
 /// How many names are tried for the file beside.
 const NAMES: u32 = 1_000;
+
+/// What the system adds to the name that an open file had.
+const NAMELESS: &[u8] = b" (deleted)";
 
 /// A file that waits to be put in its place. Dropped before that, it is removed.
 #[derive(Debug)]
@@ -83,27 +87,46 @@ impl Drop for Draft {
     }
 }
 
+/// Writes what no rename can put. A file that has a name is never truncated, also where it has come
+/// just now.
 fn write_as_it_is(path: &Path, bytes: &[u8]) -> io::Result<()> {
-    let mut file = File::options().write(true).truncate(true).open(path)?;
+    let mut file = File::options().write(true).open(path)?;
+    let found = file.metadata()?;
+    if found.is_file() && found.nlink() > 0 {
+        return Err(io::Error::other("another file has come in its place"));
+    }
+    if found.is_file() {
+        file.set_len(0)?;
+    }
     file.write_all(bytes)
 }
 
 /// Where a file of this name is put; `None` where no rename can put it: a device, a FIFO, a folder, an
-/// open file without a name. A file that has a name is never written as it is.
+/// open file without a name.
 fn place(path: &Path) -> io::Result<Option<Place>> {
-    let is_there = match found(path)? {
-        Some(old) if !old.is_file() || old.nlink() == 0 => return Ok(None),
-        old => old.is_some(),
-    };
-    if is_there {
+    let named = found(path)?;
+    match &named {
+        Some(found) if !found.is_file() => return Ok(None),
         // A file that may not be written is not replaced either.
-        File::options().write(true).open(path)?;
+        Some(_) => drop(File::options().write(true).open(path)?),
+        None => {}
     }
     let place = behind_links(path);
-    // Others may write the same file meanwhile: it counts what stands there now.
-    match found(&place)? {
+    // Others may write the same file meanwhile: what stands there now is replaced.
+    let old = found(&place)?;
+    let is_other = match (&named, &old) {
+        (Some(named), Some(old)) => !are_one(named, old),
+        (Some(_), None) => true,
+        (None, _) => false,
+    };
+    if is_other && place != path && place.as_os_str().as_bytes().ends_with(NAMELESS) {
+        return match named.is_some_and(|named| named.nlink() == 0) {
+            true => Ok(None),
+            false => Err(io::Error::other("the open file has another name now")),
+        };
+    }
+    match old {
         Some(old) if !old.is_file() => Ok(None),
-        None if is_there && place != path => Err(io::ErrorKind::NotFound.into()),
         None if !ends_in_name(&place) => Ok(None),
         old => Ok(Some(Place { path: place, old })),
     }

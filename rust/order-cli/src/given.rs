@@ -75,7 +75,7 @@ impl<'a> Given<'a> {
             };
             let sources = self.sources();
             let sources = sources.map(|(name, source)| (name, fs::metadata(source)));
-            let mut others = sources.chain(streams());
+            let mut others = sources.chain(outputs());
             let is_target = |other: &io::Result<Metadata>| {
                 let other = other.as_ref();
                 other.is_ok_and(|other| are_one(&found, other))
@@ -192,7 +192,7 @@ impl<'a> Given<'a> {
 }
 
 /// What the words go to.
-fn streams() -> impl Iterator<Item = (&'static str, io::Result<Metadata>)> {
+fn outputs() -> impl Iterator<Item = (&'static str, io::Result<Metadata>)> {
     let output = ("standard output", streams::output().metadata());
     let errors = ("standard error", streams::errors().metadata());
     [output, errors].into_iter()

@@ -116,7 +116,6 @@ fn a_quiet_verdict_wants_no_output() {
     let table = "loyalty-first/site.tab";
     let [first, second] = ["0 0 1 1", "1 1 0 0"].map(|text| format!("--text \"{text}\""));
     for (line, verdict) in [
-        (format!("order same -- {table}"), 2),
         (format!("order same {table} {first} {first} --quiet"), 0),
         (format!("order same {table} {first} {second} --quiet"), 3),
         (format!("order pair {table} 0.0 1.0 --quiet"), 0),
