@@ -6,8 +6,7 @@ use Rattle.table.specs.Outcome.{Outcome, refused, numberOf, positionOf}
 use Rattle.table.specs.Answer.{outcome}
 use Rattle.model.specs.Schedule.{RefusalNumbers, firstNumbers, secondNumbers}
 use Rattle.model.specs.Ready as Model
-use Rattle.model.specs.Calls.{Result, gives, refuses, PairVerdict, independent, dependent, same, different}
-use Rattle.model.specs.Comparison.{Comparison}
+use Rattle.model.specs.Calls.{Result, gives, refuses, PairVerdict, independent, dependent, same, different, Comparison}
 use Rattle.model.specs.Recordings as Recordings
 use Rattle.answers.specs.declared.Stop.{Stop}
 use Rattle.answers.specs.declared.Stop.the-variants.{Absent, Finished, Waiting, Over}

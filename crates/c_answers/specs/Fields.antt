@@ -6,8 +6,7 @@ use mathlib.Core.Path.{_≡_}
 use mathlib.Core.List.{List}
 use Rattle.table.specs.Outcome.{Outcome, numberOf, positionOf}
 use Rattle.model.specs.Ready.{Ending, finished, stuck, going, ReadyAnswer}
-use Rattle.model.specs.Calls.{Result, gives, refuses, PairVerdict, independent, dependent, SameVerdict, same, different}
-use Rattle.model.specs.Comparison.{Comparison}
+use Rattle.model.specs.Calls.{Result, gives, refuses, PairVerdict, independent, dependent, SameVerdict, same, different, Comparison}
 use Rattle.model.specs.Recordings.{Recording, theFirst, theSecond, Part}
 use Rattle.model.specs.Route.{RightRoute}
 use Rattle.c_answers.specs.declared.OrderCheck.{OrderCheck}
@@ -21,7 +20,7 @@ use Rattle.c_answers.specs.declared.OrderRemainder.{OrderRemainder}
 abbrev pub checkFields : Outcome → OrderCheck
 checkFields o = record { refusal = numberOf o; position = positionOf o }
 
--- of run, page and route
+-- of run, page, draw and route
 abbrev pub lengthFields : Result ℕ → OrderLength
 lengthFields (gives length) = record { refusal = 0; position = 0; length = length }
 lengthFields (refuses number position) = record { refusal = number; position = position; length = 0 }

@@ -5,15 +5,15 @@ use mathlib.Core.Bool.{Bool, cond}
 use mathlib.Core.List.{List}
 use Prim.Native.Nat.{ℕ}
 use native.Mathlib.Omega.{arith}
-use Rattle.table.specs.Outcome.{Outcome, accepted, refused, _⨾_}
+use Rattle.table.specs.Outcome.{accepted, refused, _⨾_}
 use Rattle.table.specs.Read.{readOf}
 use Rattle.trace.specs.Same.{equivalent}
 use Rattle.trace.specs.Search.{pairsCompared}
 use Rattle.model.specs.Site.{initial}
 use Rattle.model.specs.Schedule.{machine, firstNumbers, secondNumbers, checkSchedule}
-use Rattle.model.specs.Calls.{gives, refuses, answer, same as alike, different, sameChecks}
-use Rattle.model.specs.Comparison.{comparisonOf}
-use Rattle.model.proofs.Checks.{then-both, answer-given}
+use Rattle.model.specs.Calls.{gives, refuses, same as alike, different, sameChecks}
+use Rattle.model.proofs.Checks.{then-both}
+use Rattle.model.proofs.SameAnswers.{comparison-refused, comparison-checked}
 use Rattle.answers.specs.declared.SameAnswer.{SameAnswer}
 use Rattle.answers.specs.Answers.{sameResult}
 use Rattle.comparison.specs.Traces.{Judged, ComparedRight}
@@ -25,19 +25,9 @@ refusal-gives e = let z : _≡_ {A = ℕ} 0 1 = cc in absurd (omega arith)
 module _ {table first second firstBytes secondBytes : List ℕ} where
   pub compared-refused : {r : SameAnswer} {n p : ℕ} → sameResult r ≡ refuses n p → sameChecks table first second ≡ refused n p
       → ComparedRight table first second firstBytes secondBytes r
-  unfolding comparisonOf
   compared-refused {r} {n} {p} h e =
       record {
-        right =
-            h
-            ∙ sym
-            (ap
-            (λ (o : Outcome).
-            answer o (record {
-              verdict = cond (equivalent (machine table) initial first second) alike different;
-              pairs = pairsCompared (machine table) initial first second;
-            }))
-            e);
+        right = h ∙ sym (comparison-refused table first second n p .1 e);
         kept = λ n s. refusal-gives (sym (ap sameResult s) ∙ h);
       }
 
@@ -62,12 +52,11 @@ module _ {table first second firstBytes secondBytes : List ℕ} where
   pub judged : {r : SameAnswer} (b : Bool) (n : ℕ) → Judged table first second firstBytes secondBytes → equivalent (machine table) initial first second ≡ b
       → pairsCompared (machine table) initial first second ≡ n → sameResult r ≡ gives (record { verdict = cond b alike different; pairs = n })
       → ComparedRight table first second firstBytes secondBytes r
-  unfolding comparisonOf
   judged b n J e k h =
       record {
         right =
             h
-            ∙ sym (answer-given (sameChecks table first second) _ (then-both (J .read) (then-both (J .first-fine) (J .second-fine)))
+            ∙ sym (comparison-checked table first second (then-both (J .read) (then-both (J .first-fine) (J .second-fine)))
             ∙ (λ i. gives (record { verdict = cond (e i) alike different; pairs = k i })));
         kept = λ n s. (J .first-kept, J .second-kept);
       }

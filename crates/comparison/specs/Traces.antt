@@ -10,7 +10,7 @@ use Rattle.table.specs.Promise.{WellFormed}
 use Rattle.trace.specs.Schedule.{names}
 use Rattle.model.specs.Site.{initial}
 use Rattle.model.specs.Schedule.{machine, RefusalNumbers, firstNumbers, secondNumbers, checkSchedule}
-use Rattle.model.specs.Comparison.{comparisonOf}
+use Rattle.model.specs.Calls.{comparisonOf}
 use Rattle.play.specs.Parts.{haltOf}
 use Rattle.play.specs.declared.Halt.{Halt}
 use Rattle.play.specs.declared.Halt.the-variants.{End}

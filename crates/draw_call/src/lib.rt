@@ -1,4 +1,4 @@
-// The draw call: 23, then the table, then the load that a seed determines.
+// The draw call: 23, then the table, then the schedule that a seed determines.
 ghost use mathlib.Core.Path.{_≡_};
 ghost use Rattle.model.specs.Draw.{drawOf};
 ghost use Rattle.answers.specs.Answers.{lengthResult};

@@ -31,8 +31,8 @@ loneOf b at limit = demand (ltb (pAt b at) limit) 7 at ⨾ demand (eqb (qAt b at
 abbrev pub allBelow : List ℕ → ℕ → ℕ → ℕ → Outcome
 allBelow b at limit n = each (λ i. demand (ltb (listedAt b at i) limit) 7 at) n 0
 
-abbrev pub allPosts : List ℕ → ℕ → ℕ → ℕ → Outcome
-allPosts b first k n =
+abbrev pub allCommunications : List ℕ → ℕ → ℕ → ℕ → Outcome
+allCommunications b first k n =
     let at = placeOf first k in each (λ i. demand (allowed b first k (listedAt b at i)) 8 at) n 0
 
 -- p a cell, a list of z numbers that are right, q unused: TestAny, WaitAny, MutexTest, MutexWait

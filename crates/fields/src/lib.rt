@@ -8,7 +8,7 @@ ghost use Rattle.table.specs.Format.{mailboxesOf, mutexesOf, valueAt, placeOf};
 ghost use Rattle.table.specs.Kinds.{form, cell, unused, value};
 ghost use Rattle.table.specs.Read.{checkOf, fieldsOf, blanks};
 ghost use Rattle.table.specs.Answer.{outcome};
-ghost use Rattle.fields.specs.Parts.{Room, Plain, limitsOf, qUnder, valueUnder, twoFieldsOf, loneOf, allBelow, allPosts, listOf};
+ghost use Rattle.fields.specs.Parts.{Room, Plain, limitsOf, qUnder, valueUnder, twoFieldsOf, loneOf, allBelow, allCommunications, listOf};
 use table::Reading;
 use table::bytes;
 
@@ -143,7 +143,7 @@ fn lone(t: &[u8], at: usize, limit: usize) -> Reading
 // TestAny, WaitAny: a result cell and a list of own actions.
 fn any(t: &[u8], first: usize, k: usize) -> Reading
     requires { ⌜ Room (now t) (placeOf first k) ⌝ }
-    ensures { λ r. ⌜ outcome r ≡ listOf (now (t .entry)) (placeOf first k) (allPosts (now (t .entry)) first k) ⌝ }
+    ensures { λ r. ⌜ outcome r ≡ listOf (now (t .entry)) (placeOf first k) (allCommunications (now (t .entry)) first k) ⌝ }
 {
     let at = first + 8 * k;
     if 8 <= t[at + 1] {
@@ -156,7 +156,7 @@ fn any(t: &[u8], first: usize, k: usize) -> Reading
     if 4 < z {
         return Reading::Range(at as u32);
     }
-    if all_posts(t, first, k, z) {
+    if all_communications(t, first, k, z) {
         if t[at + 2] != 0 {
             return Reading::Unused(at as u32);
         }
@@ -219,9 +219,9 @@ fn all_below(t: &[u8], at: usize, z: usize, limit: usize) -> bool
 }
 
 // The first z numbers of a list are lower Sends or Receives.
-fn all_posts(t: &[u8], first: usize, k: usize, z: usize) -> bool
+fn all_communications(t: &[u8], first: usize, k: usize, z: usize) -> bool
     requires { ⌜ Room (now t) (placeOf first k) × (z ≤ 4) ⌝ }
-    ensures { λ r. ⌜ demand r 8 (placeOf first k) ≡ allPosts (now (t .entry)) first k z ⌝ }
+    ensures { λ r. ⌜ demand r 8 (placeOf first k) ≡ allCommunications (now (t .entry)) first k z ⌝ }
 {
     let at = first + 8 * k;
     let mut i = 0;

@@ -78,7 +78,7 @@ laid text bytes r w h =
     record {
       counted = w .0;
       room = omega (arith, w .0);
-      held = w .1 ∙ ap (λ (l : List ℕ). text ++ l) (drop-zeros 1293 (length text));
+      laid = w .1 ∙ ap (λ (l : List ℕ). text ++ l) (drop-zeros 1293 (length text));
     }
 
 -- what is laid out of two files' beginnings is the files' own

@@ -9,4 +9,4 @@ use Rattle.listing.specs.declared.Listing.{Listing}
 pub record Laid (text : List ℕ) (r : Listing) : Type 0 where
   pub counted : r .length ≡ length text
   pub room : length text ≤ 1293
-  pub held : r .bytes ≡ text ++ replicate (1293 - length text) 0
+  pub laid : r .bytes ≡ text ++ replicate (1293 - length text) 0

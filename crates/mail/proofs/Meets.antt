@@ -26,27 +26,27 @@ grown-by-one ends n long small =
 module _ (comms log ends : List ℕ) (room : MailRoom comms log ends) (me value : ℕ) (is-name : me < 256) (port : Port) where
   -- ---- nothing is pending on the other side: the step joins its own side's end
 
-  module _ (mine theirs : ℕ) (is-mine : mine ≡ portNumber port) (is-theirs : theirs ≡ portNumber (opposite port)) (mine-small : mine < 16)
-      (theirs-small : theirs < 16) (fits : value < 2 ^ 32) (free : tailIn ends mine < 256) (none : tailIn ends theirs ≤ headIn ends theirs)
+  module _ (own-number other-number : ℕ) (is-own : own-number ≡ portNumber port) (is-other : other-number ≡ portNumber (opposite port)) (own-small : own-number < 16)
+      (other-small : other-number < 16) (fits : value < 2 ^ 32) (free : tailIn ends own-number < 256) (none : tailIn ends other-number ≤ headIn ends other-number)
     where
-      join-meets : mailOf (set comms me (pendingCode value)) (appended log ends mine me) (tailOn ends mine)
+      join-meets : mailOf (set comms me (pendingCode value)) (appended log ends own-number me) (tailOn ends own-number)
           ≡ meet port (nameOf me) value (mailOf comms log ends)
       join-meets =
           own
           ∙ ap (λ (l : List Name). meetWith l port (nameOf me) value (mailOf comms log ends))
-          (sym (waiting-none log ends (room .log-room) theirs theirs-small (opposite port) is-theirs none))
+          (sym (waiting-none log ends (room .log-room) other-number other-small (opposite port) is-other none))
         where
-          own : mailOf (set comms me (pendingCode value)) (appended log ends mine me) (tailOn ends mine)
+          own : mailOf (set comms me (pendingCode value)) (appended log ends own-number me) (tailOn ends own-number)
               ≡ meetWith [] port (nameOf me) value (mailOf comms log ends)
           own =
               let c = joined comms me value (omega (arith, room .comms-room .long)) in
-              let w = waiting-appended log ends (room .log-room) mine mine-small port is-mine me free in
+              let w = waiting-appended log ends (room .log-room) own-number own-small port is-own me free in
               λ i. record { comm = c i; waiting = w i }
 
-      join-room : MailRoom (set comms me (pendingCode value)) (appended log ends mine me) (tailOn ends mine)
+      join-room : MailRoom (set comms me (pendingCode value)) (appended log ends own-number me) (tailOn ends own-number)
       join-room =
           let r = room .log-room in
-          let v : ℕ = tailIn ends mine + 1 in
+          let v : ℕ = tailIn ends own-number + 1 in
           record {
             comms-room = record {
               long = length-set comms me (pendingCode value) ∙ room .comms-room .long;
@@ -55,30 +55,30 @@ module _ (comms log ends : List ℕ) (room : MailRoom comms log ends) (me value 
                   (room .comms-room .valued);
             };
             log-room = record {
-              log-long = length-set log (256 * mine + tailIn ends mine) me ∙ r .log-long;
-              ends-long = length-set ends (2 * mine + 1) v ∙ r .ends-long;
+              log-long = length-set log (256 * own-number + tailIn ends own-number) me ∙ r .log-long;
+              ends-long = length-set ends (2 * own-number + 1) v ∙ r .ends-long;
               ordered = λ k.
-                  rw (heads-kept ends mine v k)
-                  (each-tail ends mine v (r .ends-long) mine-small (λ (j t : ℕ). headIn ends j ≤ t) (omega (arith, r .ordered mine)) (r .ordered) k);
-              bounded = each-tail ends mine v (r .ends-long) mine-small (λ (k t : ℕ). t ≤ 256) (omega arith) (r .bounded);
+                  rw (heads-kept ends own-number v k)
+                  (each-tail ends own-number v (r .ends-long) own-small (λ (j t : ℕ). headIn ends j ≤ t) (omega (arith, r .ordered own-number)) (r .ordered) k);
+              bounded = each-tail ends own-number v (r .ends-long) own-small (λ (k t : ℕ). t ≤ 256) (omega arith) (r .bounded);
             };
           }
 
-      pub join-posted : {comms′ log′ ends′ : List ℕ} → comms′ ≡ set comms me (pendingCode value) → log′ ≡ appended log ends mine me
-          → ends′ ≡ tailOn ends mine → Posted port (nameOf me) value comms log ends comms′ log′ ends′
+      pub join-posted : {comms′ log′ ends′ : List ℕ} → comms′ ≡ set comms me (pendingCode value) → log′ ≡ appended log ends own-number me
+          → ends′ ≡ tailOn ends own-number → Posted port (nameOf me) value comms log ends comms′ log′ ends′
       join-posted p q r =
-          rw (p, q, r) (record { mail = join-meets; room = join-room; grown = grown-by-one ends mine (room .log-room .ends-long) mine-small })
+          rw (p, q, r) (record { mail = join-meets; room = join-room; grown = grown-by-one ends own-number (room .log-room .ends-long) own-small })
 
   -- ---- a step is pending on the other side: the step pairs with the oldest
 
-  module _ (theirs : ℕ) (is-theirs : theirs ≡ portNumber (opposite port)) (theirs-small : theirs < 16)
-      (some : headIn ends theirs < tailIn ends theirs) (other : ℕ) (is-oldest : other ≡ oldestIn log ends theirs) (other-name : other < 256)
+  module _ (other-number : ℕ) (is-other : other-number ≡ portNumber (opposite port)) (other-small : other-number < 16)
+      (some : headIn ends other-number < tailIn ends other-number) (other : ℕ) (is-oldest : other ≡ oldestIn log ends other-number) (other-name : other < 256)
       (sent : ℕ) (is-sent : sent ≡ pairValue (port .side) value (carried (commOf (getD comms other 0)))) (fits : sent < 2 ^ 32)
     where
       abbrev rest : List Name
-      rest = waitingOf log (headOn ends theirs) (opposite port)
+      rest = waitingOf log (headOn ends other-number) (opposite port)
 
-      pair-meets : mailOf (paired comms me other sent) log (headOn ends theirs) ≡ meet port (nameOf me) value (mailOf comms log ends)
+      pair-meets : mailOf (paired comms me other sent) log (headOn ends other-number) ≡ meet port (nameOf me) value (mailOf comms log ends)
       pair-meets = own ∙ ap (λ (l : List Name). meetWith l port (nameOf me) value (mailOf comms log ends)) oldest
         where
           comm : commsOf (paired comms me other sent) ≡ pair port (nameOf me) value (nameOf other) rest (mailOf comms log ends) .comm
@@ -87,21 +87,21 @@ module _ (comms log ends : List ℕ) (room : MailRoom comms log ends) (me value 
               ∙ ap (λ (v : ℕ). upd eqName (upd eqName (commsOf comms) (nameOf other) (done (nameOf me) v)) (nameOf me) (done (nameOf other) v))
               (is-sent ∙ ap (pairValue (port .side) value) (sym (carried-at comms other)))
 
-          own : mailOf (paired comms me other sent) log (headOn ends theirs)
+          own : mailOf (paired comms me other sent) log (headOn ends other-number)
               ≡ meetWith (nameOf other ∷ rest) port (nameOf me) value (mailOf comms log ends)
           own =
-              let w = waiting-taken log ends (room .log-room) theirs theirs-small (opposite port) is-theirs some in
+              let w = waiting-taken log ends (room .log-room) other-number other-small (opposite port) is-other some in
               λ i. record { comm = comm i; waiting = w i }
 
           oldest : nameOf other ∷ rest ≡ waitingOf log ends (opposite port)
           oldest =
               ap (λ (x : ℕ). nameOf x ∷ rest) is-oldest
-              ∙ sym (waiting-some log ends (room .log-room) theirs theirs-small (opposite port) is-theirs some)
+              ∙ sym (waiting-some log ends (room .log-room) other-number other-small (opposite port) is-other some)
 
-      pair-room : MailRoom (paired comms me other sent) log (headOn ends theirs)
+      pair-room : MailRoom (paired comms me other sent) log (headOn ends other-number)
       pair-room =
           let r = room .log-room in
-          let v : ℕ = headIn ends theirs + 1 in
+          let v : ℕ = headIn ends other-number + 1 in
           let first : List ℕ = set comms other (doneCode me sent) in
           let first-long : length first ≡ 256 = length-set comms other (doneCode me sent) ∙ room .comms-room .long in
           record {
@@ -114,20 +114,20 @@ module _ (comms log ends : List ℕ) (room : MailRoom comms log ends) (me value 
             };
             log-room = record {
               log-long = r .log-long;
-              ends-long = length-set ends (2 * theirs) v ∙ r .ends-long;
+              ends-long = length-set ends (2 * other-number) v ∙ r .ends-long;
               ordered = λ k.
-                  rw (tails-kept ends theirs v k)
-                  (each-head ends theirs v (r .ends-long) theirs-small (λ (j h : ℕ). h ≤ tailIn ends j) (omega arith) (r .ordered) k);
-              bounded = λ k. rw (tails-kept ends theirs v k) (r .bounded k);
+                  rw (tails-kept ends other-number v k)
+                  (each-head ends other-number v (r .ends-long) other-small (λ (j h : ℕ). h ≤ tailIn ends j) (omega arith) (r .ordered) k);
+              bounded = λ k. rw (tails-kept ends other-number v k) (r .bounded k);
             };
           }
 
-      pub pair-posted : {comms′ ends′ : List ℕ} → comms′ ≡ paired comms me other sent → ends′ ≡ headOn ends theirs
+      pub pair-posted : {comms′ ends′ : List ℕ} → comms′ ≡ paired comms me other sent → ends′ ≡ headOn ends other-number
           → Posted port (nameOf me) value comms log ends comms′ log ends′
       pair-posted p q =
           rw (p, q)
           (record {
             mail = pair-meets;
             room = pair-room;
-            grown = λ n. omega (arith, tails-kept ends theirs (headIn ends theirs + 1) n);
+            grown = λ n. omega (arith, tails-kept ends other-number (headIn ends other-number + 1) n);
           })

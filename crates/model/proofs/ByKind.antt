@@ -9,7 +9,7 @@ use mathlib.Core.List.{List}
 use Rattle.table.specs.declared.Action.{Action}
 use Rattle.table.specs.declared.Action.the-variants.{Set, Add, Lesser, Send, Receive, TestAny, WaitAny, Lock, Unlock, MutexTest, MutexWait, Note}
 use Rattle.table.specs.declared.Numbers.{Numbers}
-use Rattle.table.specs.Promise.{isPost}
+use Rattle.table.specs.Promise.{isCommunication}
 use Rattle.model.specs.Views.{silent, posts, sent, keeps, viewOf, blind, communications, mutexes, looks, waits, total, listed}
 use Rattle.model.specs.PairCases.{TestOrWait, MutexTestOrWait}
 
@@ -18,7 +18,7 @@ use Rattle.model.specs.PairCases.{TestOrWait, MutexTestOrWait}
 -- an action that posts nothing: it is no Send or Receive, sends no value, and nothing is picked up of it
 pub record Quiet (x : Action) : Type 0 where
   pub posts-none : posts x ≡ silent
-  pub no-post : isPost x ≡ false
+  pub no-post : isCommunication x ≡ false
   pub sends-none : (cells : List ℕ) → sent x cells ≡ 0
   pub picks-none : viewOf x .picked ≡ keeps
 
@@ -30,7 +30,7 @@ pub data Posting (x : Action) : Type 0 where
   unlocks : (mutex : ℕ) → x ≡ Unlock mutex → Posting x
   writes-down : (cell : ℕ) → x ≡ Note cell → Posting x
 
-quietly : {x : Action} → posts x ≡ silent → isPost x ≡ false → ((cells : List ℕ) → sent x cells ≡ 0) → viewOf x .picked ≡ keeps → Posting x
+quietly : {x : Action} → posts x ≡ silent → isCommunication x ≡ false → ((cells : List ℕ) → sent x cells ≡ 0) → viewOf x .picked ≡ keeps → Posting x
 quietly p i s k = quiet (record { posts-none = p; no-post = i; sends-none = s; picks-none = k })
 
 pub posting : (x : Action) → Posting x

@@ -20,12 +20,12 @@ use Rattle.model.specs.Ready.{readyAnswer}
 use Rattle.model.specs.Pair.{depends}
 use Rattle.model.specs.Report.{report}
 use Rattle.model.specs.Schedule.{machine}
-use Rattle.model.specs.Calls.{runOf, readyOf, pairOf, sameOf}
+use Rattle.model.specs.Calls.{runOf, readyOf, pairOf, sameOf, comparisonOf}
 use Rattle.model.specs.Claims.{AllHold, eqList, isChain}
 use Rattle.model.specs.Cases.{tableA, cases}
 
 pub cases-hold : AllHold cases
-unfolding runOf readyOf pairOf sameOf readOf decodeAs initial ready step cellsAfter readyAnswer depends report equivalent
+unfolding runOf readyOf pairOf comparisonOf sameOf readOf decodeAs initial ready step cellsAfter readyAnswer depends report equivalent
 cases-hold = refl
 
 -- ---- the test for a chain says what it should

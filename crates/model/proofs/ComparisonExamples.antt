@@ -9,10 +9,11 @@ use Rattle.model.specs.Site.{initial}
 use Rattle.model.specs.Local.{cellsAfter}
 use Rattle.model.specs.Step.{ready, step}
 use Rattle.model.specs.Pair.{depends}
-use Rattle.model.specs.Comparison.{comparisonOf, prefixComparisonOf}
+use Rattle.model.specs.Calls.{sameOf, comparisonOf}
+use Rattle.model.specs.Recordings.{prefixComparisonOf}
 use Rattle.model.specs.Claims.{AllHold}
 use Rattle.model.specs.ComparisonExamples.{comparisons}
 
 pub comparisons-hold : AllHold comparisons
-unfolding prefixComparisonOf comparisonOf pairsCompared depends equivalent readOf decodeAs initial ready step cellsAfter
+unfolding prefixComparisonOf comparisonOf sameOf pairsCompared depends equivalent readOf decodeAs initial ready step cellsAfter
 comparisons-hold = refl

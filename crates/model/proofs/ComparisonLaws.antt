@@ -7,7 +7,7 @@ use mathlib.Core.Logic.{_⊎_, inl, inr, _↔_}
 use mathlib.Core.Bool.{Bool, true, false, not, _&&_, cond}
 use mathlib.Core.List.{List}
 use lib.ListN.{length}
-use Rattle.table.specs.Outcome.{Outcome, accepted, refused}
+use Rattle.table.specs.Outcome.{accepted}
 use Rattle.table.specs.Read.{readOf}
 use Rattle.trace.specs.Same.{sameSteps, equivalent}
 use Rattle.trace.specs.Search.{Search, comparedIn, hasEnded, opposedIn}
@@ -18,18 +18,16 @@ use Rattle.trace.proofs.Numbered.{searched, search-judges, number-is}
 use Rattle.model.specs.Site.{initial}
 use Rattle.model.specs.Pair.{depends}
 use Rattle.model.specs.Schedule.{machine}
-use Rattle.model.specs.Calls.{gives, answer, pairOf, dependent, independent, SameVerdict, same, different, sameChecks, sameOf}
-use Rattle.model.specs.Recordings.{held, prefixOf}
-use Rattle.model.specs.Comparison.{Comparison, comparisonOf, prefixComparisonOf}
+use Rattle.model.specs.Calls.{Result, gives, refuses, pairOf, dependent, independent, SameVerdict, same, different, sameOf, Comparison, beside, comparisonOf}
 use Rattle.model.specs.Demand3.{Accepted, stepName}
 use Rattle.model.specs.ComparisonLaws.{verdictIn, allPairs, numberTelling, Sooner, Crossed, FirstCrossed, Answers, EveryComparison}
-use Rattle.model.proofs.Checks.{answer-given, gives-injective, steps-in-table}
-use Rattle.model.proofs.Demand3.{checks-both, pair-given, judged-dependent}
+use Rattle.model.proofs.Checks.{gives-injective, steps-in-table}
+use Rattle.model.proofs.Demand3.{comparison-given, pair-given, judged-dependent}
 use Rattle.model.proofs.SameVerdicts.{both-accepted}
 
-verdict-kept : (o : Outcome) (c : Comparison) → verdictIn (answer o c) ≡ answer o (c .verdict)
-verdict-kept accepted c = refl
-verdict-kept (refused n p) c = refl
+verdict-kept : (pairs : ℕ) (r : Result SameVerdict) → verdictIn (beside pairs r) ≡ r
+verdict-kept pairs (gives v) = refl
+verdict-kept pairs (refuses number position) = refl
 
 same-not-different : same ≡ different → ⊥
 same-not-different e = let z : _≡_ {A = ℕ} 0 1 = cc in omega arith
@@ -46,12 +44,8 @@ each-number m n h l = go (some-pair m (n - 1) (omega (arith, h, l, triangle-is m
 
 module _ (table : List ℕ) where
   pub verdicts : (p q : List ℕ) → verdictIn (comparisonOf table p q) ≡ sameOf table p q
-  unfolding comparisonOf sameOf
-  verdicts p q = verdict-kept (sameChecks table p q) _
-
-  prefix-verdicts : (p q : List ℕ) → verdictIn (prefixComparisonOf table p q) ≡ prefixOf table p q
-  unfolding prefixComparisonOf prefixOf
-  prefix-verdicts p q = verdicts (held p q) (held q p)
+  unfolding comparisonOf
+  verdicts p q = verdict-kept _ (sameOf table p q)
 
   module _ (read : readOf table ≡ accepted) (p q : List ℕ) where
     -- entries i and j of the first schedule are opposed
@@ -60,18 +54,16 @@ module _ (table : List ℕ) where
 
     -- an answer is given of accepted schedules only
     answered : (v : SameVerdict) (n : ℕ) → Answers table p q v n → Accepted table p × Accepted table q
-    answered v n h = both-accepted table p q v (sym (verdicts p q) ∙ ap verdictIn h)
+    answered v n h = both-accepted table p q v (n, h)
 
     module _ (hp : Accepted table p) (hq : Accepted table q) where
       given : (b : Bool) (s : Search) → sameSteps (machine table) initial p q ≡ b → searched (machine table) initial p q ≡ s
           → comparisonOf table p q ≡ gives (record { verdict = cond (b && not (hasEnded s)) same different; pairs = cond b (comparedIn s) 0 })
-      unfolding comparisonOf
       given b s steps found =
           let verdict : equivalent (machine table) initial p q ≡ (b && not (hasEnded s)) =
           search-judges (machine table) initial p q ∙ (λ k. steps k && not (hasEnded (found k))) in
           let number = number-is (machine table) initial p q b s steps found in
-          answer-given (sameChecks table p q) _ (checks-both table read p q hp hq)
-          ∙ (λ k. gives (record { verdict = cond (verdict k) same different; pairs = number k }))
+          comparison-given table read p q hp hq ∙ (λ k. gives (record { verdict = cond (verdict k) same different; pairs = number k }))
 
       -- ---- the three answers
 
@@ -190,15 +182,17 @@ module _ (table : List ℕ) where
         go steps c (inr none) = contrary (crosses-of hp hq (c .0) (c .1) (c .2)) (none (c .1) (c .2 .in-first) (c .0) (c .2 .in-order))
 
 pub every-comparison : EveryComparison
-every-comparison table read =
+every-comparison =
     record {
-      verdicts = verdicts table;
-      prefix-verdicts = prefix-verdicts table;
-      all-compared = all-compared table read;
-      none-compared = none-compared table read;
-      tells = λ p q n h some. tells table read p q n h some .1;
-      told = λ p q i j hp hq. told table read p q hp hq i j;
+      verdicts = verdicts;
       one-pair = λ i j k l h h' e. one-pair i j k l h h' (omega (arith, number-telling i j, number-telling k l, e));
       some-pair = each-number;
-      found = found table read;
+      accepted-table = λ table read.
+          record {
+            all-compared = all-compared table read;
+            none-compared = none-compared table read;
+            tells = λ p q n h some. tells table read p q n h some .1;
+            told = λ p q i j hp hq. told table read p q hp hq i j;
+            found = found table read;
+          };
     }

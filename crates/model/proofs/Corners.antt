@@ -10,10 +10,10 @@ use Rattle.model.specs.Step.{ready, step}
 use Rattle.model.specs.Ready.{readyAnswer}
 use Rattle.model.specs.Pair.{depends}
 use Rattle.model.specs.Report.{report}
-use Rattle.model.specs.Calls.{runOf, readyOf, pairOf, sameOf}
+use Rattle.model.specs.Calls.{runOf, readyOf, pairOf, sameOf, comparisonOf}
 use Rattle.model.specs.Claims.{AllHold}
 use Rattle.model.specs.Corners.{corners}
 
 pub corners-hold : AllHold corners
-unfolding runOf readyOf pairOf sameOf readOf decodeAs initial ready step cellsAfter readyAnswer depends report equivalent
+unfolding runOf readyOf pairOf comparisonOf sameOf readOf decodeAs initial ready step cellsAfter readyAnswer depends report equivalent
 corners-hold = refl

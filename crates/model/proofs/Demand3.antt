@@ -14,11 +14,13 @@ use Rattle.trace.specs.Machine.{Name}
 use Rattle.trace.specs.Schedule.{accepted as taken, names}
 use Rattle.trace.specs.Chain.{independentAt, Exchange, Chain, Chained, replay}
 use Rattle.trace.specs.Same.{equivalent}
+use Rattle.trace.specs.Search.{pairsCompared}
 use Rattle.trace.specs.Order.{has}
 use Rattle.trace.specs.Theorems.{Theorems, KeepsRun}
 use Rattle.trace.proofs.Bools.{both, is-false}
 use Rattle.trace.proofs.Run.{names-length}
 use Rattle.trace.proofs.Theorems.{theorems}
+use Rattle.table.proofs.Checks.{then-right}
 use Rattle.model.specs.Site.{Site, name, initial}
 use Rattle.model.specs.Step.{actionAt, nextName, ready}
 use Rattle.model.specs.Ready.{bit, ReadyAnswer, readyMask, readyAnswer}
@@ -26,13 +28,13 @@ use Rattle.model.specs.ReadyMask.{bitOf}
 use Rattle.model.specs.Pair.{depends}
 use Rattle.model.specs.Report.{report}
 use Rattle.model.specs.Schedule.{machine, endState, firstNumbers, secondNumbers, checkSchedule}
-use Rattle.model.specs.Calls.{gives, runOf, readyChecks, readyOf, inTable, pairOf, independent, dependent, sameChecks, sameOf, same, different}
-use Rattle.model.specs.Demand3.{Accepted, stepName, EndsAlike, StillReady, EveryTable}
+use Rattle.model.specs.Calls.{gives, runOf, readyChecks, readyOf, inTable, pairOf, independent, dependent, sameChecks, SameVerdict, same, different, Comparison, comparisonOf}
+use Rattle.model.specs.Demand3.{Accepted, stepName, Says, EndsAlike, StillReady, EveryTable}
 use Rattle.model.proofs.Laws.{laws}
 use Rattle.model.proofs.Invariant.{inv-initial}
 use Rattle.model.proofs.ReadyMask.{bit-one, mask-right}
-use Rattle.table.proofs.Checks.{then-right}
 use Rattle.model.proofs.Checks.{then-both, demand-met, answer-given, given-accepted, gives-injective, checks-taken, taken-checks, steps-in-table}
+use Rattle.model.proofs.SameAnswers.{comparison-checked}
 
 -- the trace theory's theorems at a fresh site
 pub site-theorems : (table : List ℕ) → Theorems (machine table) initial
@@ -56,7 +58,14 @@ judged-different : (b : Bool) → cond b same different ≡ different → b ≡ 
 judged-different true h = let z : _≡_ {A = ℕ} 0 1 = cc in absurd (omega arith)
 judged-different false h = refl
 
--- the test of an exchange is the verdict on the two names
+-- an exchange is within the list
+independent-inside : (dep : Name → Name → Bool) (k : ℕ) (u : List Name) → independentAt dep k u ≡ true → suc k < length u
+independent-inside dep k [] h = absurd (true≢false (sym h))
+independent-inside dep zero (x ∷ []) h = absurd (true≢false (sym h))
+independent-inside dep zero (x ∷ y ∷ u) h = omega arith
+independent-inside dep (suc k) (x ∷ u) h = omega (arith, independent-inside dep k u h)
+
+-- its test is the verdict on the two names
 independent-names : (dep : Name → Name → Bool) (d : Name) (k : ℕ) (u : List Name) → suc k < length u
     → independentAt dep k u ≡ not (dep (getD u k d) (getD u (suc k) d))
 independent-names dep d k [] h = absurd (omega arith)
@@ -91,7 +100,7 @@ module _ (table : List ℕ) (read : readOf table ≡ accepted) where
       checks-taken table firstNumbers initial 0 p
       (then-right (readOf table) _ (given-accepted (readyChecks table p) (readyAnswer table (endState table p)) now h))
 
-  ready-given : (p : List ℕ) → Accepted table p → readyOf table p ≡ gives (readyAnswer table (endState table p))
+  pub ready-given : (p : List ℕ) → Accepted table p → readyOf table p ≡ gives (readyAnswer table (endState table p))
   unfolding readyOf
   ready-given p h = answer-given (readyChecks table p) (readyAnswer table (endState table p)) (ready-checks p h)
 
@@ -119,45 +128,46 @@ module _ (table : List ℕ) (read : readOf table ≡ accepted) where
 
   -- ---- same
 
-  pub checks-both : (p q : List ℕ) → Accepted table p → Accepted table q → sameChecks table p q ≡ accepted
+  checks-both : (p q : List ℕ) → Accepted table p → Accepted table q → sameChecks table p q ≡ accepted
   checks-both p q hp hq =
       then-both read (then-both (taken-checks table firstNumbers initial 0 p hp) (taken-checks table secondNumbers initial 0 q hq))
 
-  pub same-given : (p q : List ℕ) → Accepted table p → Accepted table q
-      → sameOf table p q ≡ gives (cond (equivalent (machine table) initial p q) same different)
-  unfolding sameOf
-  same-given p q hp hq = answer-given (sameChecks table p q) _ (checks-both p q hp hq)
+  pub comparison-given : (p q : List ℕ) → Accepted table p → Accepted table q
+      → comparisonOf table p q
+      ≡ gives
+      (record {
+        verdict = cond (equivalent (machine table) initial p q) same different;
+        pairs = pairsCompared (machine table) initial p q;
+      })
+  comparison-given p q hp hq = comparison-checked table p q (checks-both p q hp hq)
 
-  same-iff : (p q : List ℕ) → Accepted table p → Accepted table q → (sameOf table p q ≡ gives same) ↔ Chained (machine table) initial p q
-  same-iff p q hp hq = (chained, given)
-    where
-      test : Bool
-      test = equivalent (machine table) initial p q
+  -- the call says what the test comes to
+  pub says-test : (p q : List ℕ) → Accepted table p → Accepted table q → (v : SameVerdict)
+      → Says (comparisonOf table p q) v ↔ (cond (equivalent (machine table) initial p q) same different ≡ v)
+  says-test p q hp hq v = (
+    λ s. ap (λ (c : Comparison). c .verdict) (gives-injective (sym (comparison-given p q hp hq) ∙ s .1)),
+    λ e. (
+      pairsCompared (machine table) initial p q,
+      comparison-given p q hp hq ∙ ap (λ (w : SameVerdict). gives (record { verdict = w; pairs = pairsCompared (machine table) initial p q })) e,
+    ),
+  )
 
-      chained : sameOf table p q ≡ gives same → Chained (machine table) initial p q
-      chained h =
-          site-theorems table .same-chained p q hp hq .0 (judged-same test (gives-injective (sym (same-given p q hp hq) ∙ h)))
-
-      given : Chained (machine table) initial p q → sameOf table p q ≡ gives same
-      given c =
-          same-given p q hp hq ∙ ap (λ (b : Bool). gives (cond b same different)) (site-theorems table .same-chained p q hp hq .1 c)
+  same-iff : (p q : List ℕ) → Accepted table p → Accepted table q → Says (comparisonOf table p q) same ↔ Chained (machine table) initial p q
+  same-iff p q hp hq =
+      let test : Bool = equivalent (machine table) initial p q in
+      let chained = site-theorems table .same-chained p q hp hq in (
+        λ s. chained .0 (judged-same test (says-test p q hp hq same .0 s)),
+        λ c. says-test p q hp hq same .1 (ap (λ (b : Bool). cond b same different) (chained .1 c)),
+      )
 
   different-iff : (p q : List ℕ) → Accepted table p → Accepted table q
-      → (sameOf table p q ≡ gives different) ↔ (¬ Chained (machine table) initial p q)
-  different-iff p q hp hq = (apart, given)
-    where
-      test : Bool
-      test = equivalent (machine table) initial p q
-
-      apart : sameOf table p q ≡ gives different → ¬ Chained (machine table) initial p q
-      apart h c =
-          true≢false
-          (sym (site-theorems table .same-chained p q hp hq .1 c) ∙ judged-different test (gives-injective (sym (same-given p q hp hq) ∙ h)))
-
-      given : ¬ Chained (machine table) initial p q → sameOf table p q ≡ gives different
-      given n =
-          same-given p q hp hq
-          ∙ ap (λ (b : Bool). gives (cond b same different)) (is-false test (λ t. n (site-theorems table .same-chained p q hp hq .0 t)))
+      → Says (comparisonOf table p q) different ↔ (¬ Chained (machine table) initial p q)
+  different-iff p q hp hq =
+      let test : Bool = equivalent (machine table) initial p q in
+      let chained = site-theorems table .same-chained p q hp hq in (
+        λ s c. true≢false (sym (chained .1 c) ∙ judged-different test (says-test p q hp hq different .0 s)),
+        λ n. says-test p q hp hq different .1 (ap (λ (b : Bool). cond b same different) (is-false test (λ t. n (chained .0 t)))),
+      )
 
   -- ---- pair
 
@@ -165,9 +175,10 @@ module _ (table : List ℕ) (read : readOf table ≡ accepted) where
   unfolding pairOf
   pair-given x y hx hy = answer-given (readOf table ⨾ demand (inTable table x && inTable table y) 17 0) _ (then-both read (demand-met 17 0 (both hx hy)))
 
-  exchange-iff : (p : List ℕ) (k : ℕ) → Accepted table p → suc k < length p
-      → (pairOf table (stepName table p k) (stepName table p (suc k)) ≡ gives independent) ↔ Exchange (machine table) initial k p
-  exchange-iff p k h l = (exchanged, judged)
+  exchange-iff : (p : List ℕ) (k : ℕ)
+      → Exchange (machine table) initial k p
+      ↔ (Accepted table p × (suc k < length p) × (pairOf table (stepName table p k) (stepName table p (suc k)) ≡ gives independent))
+  exchange-iff p k = (judged, exchanged)
     where
       x : Name
       x = stepName table p k
@@ -175,22 +186,31 @@ module _ (table : List ℕ) (read : readOf table ≡ accepted) where
       y : Name
       y = stepName table p (suc k)
 
-      call : pairOf table x y ≡ gives (cond (depends table x y) dependent independent)
-      call = pair-given x y (steps-in-table table initial p h k (omega arith)) (steps-in-table table initial p h (suc k) l)
+      long : length (names (machine table) initial p) ≡ length p
+      long = names-length (machine table) initial p
 
-      test : independentAt (depends table) k (names (machine table) initial p) ≡ not (depends table x y)
-      test =
-          independent-names (depends table) (name 0 0) k (names (machine table) initial p)
-          (let n : length (names (machine table) initial p) ≡ length p = names-length (machine table) initial p in omega arith)
+      call : Accepted table p → suc k < length p → pairOf table x y ≡ gives (cond (depends table x y) dependent independent)
+      call h l = pair-given x y (steps-in-table table initial p h k (omega arith)) (steps-in-table table initial p h (suc k) l)
 
-      exchanged : pairOf table x y ≡ gives independent → Exchange (machine table) initial k p
-      exchanged e =
-          record { taken = h; independent = test ∙ ap not (judged-independent (depends table x y) (gives-injective (sym call ∙ e))) }
+      test : suc k < length p → independentAt (depends table) k (names (machine table) initial p) ≡ not (depends table x y)
+      test l = independent-names (depends table) (name 0 0) k (names (machine table) initial p) (omega (arith, l, long))
 
-      judged : Exchange (machine table) initial k p → pairOf table x y ≡ gives independent
+      judged : Exchange (machine table) initial k p → Accepted table p × (suc k < length p) × (pairOf table x y ≡ gives independent)
       judged e =
-          call
-          ∙ ap (λ (b : Bool). gives (cond b dependent independent)) (not-true (depends table x y) (sym test ∙ e .independent))
+          let l : suc k < length p =
+          omega (arith, long, independent-inside (depends table) k (names (machine table) initial p) (e .independent)) in (
+            e .taken,
+            l,
+            call (e .taken) l
+                ∙ ap (λ (b : Bool). gives (cond b dependent independent)) (not-true (depends table x y) (sym (test l) ∙ e .independent)),
+          )
+
+      exchanged : Accepted table p × (suc k < length p) × (pairOf table x y ≡ gives independent) → Exchange (machine table) initial k p
+      exchanged f =
+          record {
+            taken = f .0;
+            independent = test (f .1) ∙ ap not (judged-independent (depends table x y) (gives-injective (sym (call (f .0) (f .1)) ∙ f .2)));
+          }
 
 -- demand 3
 pub demand-3 : EveryTable

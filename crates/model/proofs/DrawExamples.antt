@@ -1,4 +1,4 @@
--- The draws and loads of `specs/DrawExamples.antt`: one proof, by computation.
+-- The draws of `specs/DrawExamples.antt`: one proof, by computation.
 -- Assumes nothing.
 use mathlib.Core.Path.{refl}
 use Rattle.table.specs.Decode.{decodeAs}
@@ -11,8 +11,8 @@ use Rattle.model.specs.Calls.{readyOf}
 use Rattle.model.specs.Scheduler.{madeFrom}
 use Rattle.model.specs.Draw.{drawOf}
 use Rattle.model.specs.Claims.{AllHold}
-use Rattle.model.specs.DrawExamples.{loads}
+use Rattle.model.specs.DrawExamples.{draws}
 
-pub loads-hold : AllHold loads
+pub draws-hold : AllHold draws
 unfolding drawOf madeFrom readyOf readyAnswer readOf decodeAs initial ready step cellsAfter
-loads-hold = refl
+draws-hold = refl

@@ -1,34 +1,34 @@
--- The load that a seed determines: what every made schedule is, that it follows the rule of the draw, and that it alone does.
+-- The schedule that a seed determines: what every made schedule is, that it follows the rule of the draw, and that it alone does.
 -- Assumes nothing.
 use Prim.Native.Nat.{ℕ, zero, suc, _-_, _≤_, _<_}
 use native.Mathlib.Nat.{mod-lt}
 use native.Mathlib.Omega.{arith}
-use mathlib.Core.Path.{_≡_, sym, _∙_, ap, subst}
+use mathlib.Core.Path.{_≡_, sym, _∙_, ap}
 use mathlib.Core.Logic.{_⊎_, inl, inr}
 use mathlib.Core.Bool.{Bool, true, false}
-use mathlib.Core.List.{List, [], _∷_, _++_}
+use mathlib.Core.List.{List, [], _∷_}
 use lib.Dec.{eqb}
-use lib.ListN.{length, take, drop}
-use lib.Seq.{take-append-seam}
+use lib.ListN.{length}
 use borrow.Author.Tests.{ltb-true, eqb-true, eqb-false}
 use Rattle.table.specs.Format.{actorsOf}
-use Rattle.table.specs.Outcome.{Outcome, accepted, refused}
+use Rattle.table.specs.Outcome.{Outcome}
 use Rattle.table.specs.Read.{readOf}
 use Rattle.table.proofs.Promise.{promised}
 use Rattle.trace.proofs.Bools.{which}
 use Rattle.model.specs.Site.{Site, initial}
 use Rattle.model.specs.Step.{ready, step}
 use Rattle.model.specs.Ready.{howMany, readyCount}
-use Rattle.model.specs.Calls.{gives, answer, Filled, lentAfter, fills}
+use Rattle.model.specs.Calls.{answer}
 use Rattle.model.specs.Reached.{Reached}
 use Rattle.model.specs.Scheduler.{scheduleRoom, turnOf, entriesFrom, madeFrom}
 use Rattle.model.specs.Draw.{draw, rankBy, drawing, drawnFrom, drawOf}
-use Rattle.model.specs.Drawn.{rankIn, Follows, EveryDraw, TwoTechnicians}
-use Rattle.model.proofs.Checks.{gives-injective, ready-parts}
+use Rattle.model.specs.Drawn.{rankIn, Follows, EveryDraw, DrawTold, EqualDraws}
+use Rattle.model.proofs.Checks.{ready-parts}
 use Rattle.model.proofs.Reached.{reached-initial, reached-step}
 use Rattle.model.proofs.Fills.{with-room}
 use Rattle.model.proofs.Ranked.{Rank, ranked-finds, ranked-only}
 use Rattle.model.proofs.Scheduled.{some-ready, nobody-ready, nobody-counts, ready-left, Chooses, entries-end, entries-turn, Room, room-next, nobody-left, made-room, scheduled}
+use Rattle.model.proofs.Told.{made-told}
 
 -- the rank that a draw takes is that of an actor that is ready
 pub drawn-rank : (f : ℕ → Bool) (n x : ℕ) → 0 < howMany f n 0 → Rank f n 0 (rankBy (draw x) (howMany f n 0)) (drawing .chooses x f n)
@@ -91,31 +91,23 @@ every-draw table reads =
       only = λ seed p. only-from table scheduleRoom initial seed p (reached-initial table) (made-room drawing draw-chooses table ok);
     }
 
--- ---- two technicians
+-- ---- told by the call
 
--- with enough room what is answered and written goes by the table and the entries alone
-front-alike : (o : Outcome) (written mine yours : List ℕ) (n : ℕ) → answer o (length written) ≡ gives n
-    → take n (lentAfter o written mine) ≡ take n (lentAfter o written yours)
-front-alike accepted written mine yours n h =
-    let count : length written ≡ n = gives-injective h in
-    subst (λ (k : ℕ). take k (written ++ drop (length written) mine) ≡ take k (written ++ drop (length written) yours)) count
-    (take-append-seam written (drop (length written) mine) ∙ sym (take-append-seam written (drop (length written) yours)))
-front-alike (refused number position) written mine yours n h = let z : _≡_ {A = ℕ} 0 1 = cc in absurd (omega arith)
-
-filled-by : (table : List ℕ) (seed : ℕ) (buffer : List ℕ) → scheduleRoom ≤ length buffer
-    → drawOf table seed buffer ≡ fills (readOf table) (drawnFrom table seed) buffer
+pub draw-told : DrawTold
 unfolding drawOf
-filled-by table seed buffer h =
-    ap (λ (o : Outcome). fills o (drawnFrom table seed) buffer) (with-room scheduleRoom 23 (readOf table) (drawnFrom table seed) buffer h)
+draw-told table seed buffer n h = made-told drawing draw-chooses table seed buffer n h
 
-pub two-technicians : TwoTechnicians
-two-technicians table seed mine yours h k =
-    let my = filled-by table seed mine h in
-    let your = filled-by table seed yours k in
+-- with enough room what is answered goes by the table and the entries alone
+answered : (table : List ℕ) (seed : ℕ) (buffer : List ℕ) → scheduleRoom ≤ length buffer
+    → drawOf table seed buffer .result ≡ answer (readOf table) (length (drawnFrom table seed))
+unfolding drawOf
+answered table seed buffer h =
+    ap (λ (o : Outcome). answer o (length (drawnFrom table seed))) (with-room scheduleRoom 23 (readOf table) (drawnFrom table seed) buffer h)
+
+pub equal-draws : EqualDraws
+equal-draws table seed buffer other h k =
+    let same-answer : drawOf table seed buffer .result ≡ drawOf table seed other .result = answered table seed buffer h ∙ sym (answered table seed other k) in
     record {
-      answers = ap (λ (f : Filled). f .result) my ∙ sym (ap (λ (f : Filled). f .result) your);
-      entries = λ n given.
-          ap (λ (f : Filled). take n (f .lent)) my
-          ∙ front-alike (readOf table) (drawnFrom table seed) mine yours n (sym (ap (λ (f : Filled). f .result) my) ∙ given)
-          ∙ sym (ap (λ (f : Filled). take n (f .lent)) your);
+      answers = same-answer;
+      entries = λ n given. draw-told table seed buffer n given .entries ∙ sym (draw-told table seed other n (sym same-answer ∙ given) .entries);
     }

@@ -8,10 +8,10 @@ use Rattle.model.specs.Site.{initial}
 use Rattle.model.specs.Local.{cellsAfter}
 use Rattle.model.specs.Step.{ready, step}
 use Rattle.model.specs.Pair.{depends}
-use Rattle.model.specs.Calls.{pairOf, sameOf}
+use Rattle.model.specs.Calls.{pairOf, sameOf, comparisonOf}
 use Rattle.model.specs.Claims.{AllHold}
-use Rattle.model.specs.Forecourt.{receipts}
+use Rattle.model.specs.Forecourt.{orders}
 
-pub receipts-hold : AllHold receipts
-unfolding pairOf sameOf readOf decodeAs initial ready step cellsAfter depends equivalent
-receipts-hold = refl
+pub orders-hold : AllHold orders
+unfolding pairOf comparisonOf sameOf readOf decodeAs initial ready step cellsAfter depends equivalent
+orders-hold = refl

@@ -9,10 +9,10 @@ use Rattle.model.specs.Local.{cellsAfter}
 use Rattle.model.specs.Step.{ready, step}
 use Rattle.model.specs.Pair.{depends}
 use Rattle.model.specs.Report.{report}
-use Rattle.model.specs.Calls.{runOf, sameOf}
+use Rattle.model.specs.Calls.{runOf, sameOf, comparisonOf}
 use Rattle.model.specs.Claims.{AllHold}
 use Rattle.model.specs.JournalExamples.{journals}
 
 pub journals-hold : AllHold journals
-unfolding runOf sameOf readOf decodeAs initial ready step cellsAfter depends report equivalent
+unfolding runOf comparisonOf sameOf readOf decodeAs initial ready step cellsAfter depends report equivalent
 journals-hold = refl

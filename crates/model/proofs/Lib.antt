@@ -28,6 +28,7 @@ pub mod NextSteps
 pub mod Laws
 pub mod ReadyMask
 pub mod Checks
+pub mod SameAnswers
 pub mod Demand3
 pub mod Refusals
 pub mod Routes
@@ -58,13 +59,15 @@ pub mod Decimal
 pub mod Columns
 pub mod PageShape
 pub mod SamePages
+pub mod Scheduled
+pub mod Stuck
 pub mod Over
 pub mod SameVerdicts
 pub mod RecordingLaws
 pub mod ComparisonLaws
 pub mod Fills
 pub mod Ranked
-pub mod Scheduled
+pub mod Told
 pub mod Drawn
 pub mod TableBeginning
 pub mod Beginnings

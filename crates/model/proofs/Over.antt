@@ -23,7 +23,6 @@ use Rattle.trace.specs.Machine.{Machine}
 use Rattle.trace.specs.Schedule.{accepted as all-taken, final}
 use Rattle.trace.specs.Chain.{Chain, swapAt, replay}
 use Rattle.trace.specs.Order.{has}
-use Rattle.trace.specs.Same.{equivalent}
 use Rattle.trace.proofs.Bools.{which, is-false}
 use Rattle.trace.proofs.Run.{final-append, accepted-append, first-ready, rest-accepted}
 use Rattle.trace.proofs.Swap.{swap-length}
@@ -31,12 +30,12 @@ use Rattle.model.specs.Site.{Actor, Site, name, initial}
 use Rattle.model.specs.Views.{looks, total, largest, runsOver}
 use Rattle.model.specs.Local.{Seen, see, cellsAfter}
 use Rattle.model.specs.Step.{NextStep, taken, waiting, over, actionAt, nextAction, unfinished, passes, nextStep, ready, step}
-use Rattle.model.specs.Ready.{bit, ReadyAnswer, readyAnswer}
+use Rattle.model.specs.Ready.{bit, stuck, ReadyAnswer, readyAnswer}
 use Rattle.model.specs.Schedule.{machine, endState, RefusalNumbers, firstNumbers, secondNumbers, checkStep, checkEntry, checkFrom, checkSchedule}
-use Rattle.model.specs.Calls.{gives, refuses, answer, runOf, readyChecks, readyOf, SameVerdict, same, different, sameChecks, sameOf}
+use Rattle.model.specs.Calls.{gives, refuses, answer, runOf, readyChecks, readyOf, sameChecks, comparisonOf}
 use Rattle.model.specs.Page as Page
 use Rattle.model.specs.Demand3.{Accepted, EndsAlike}
-use Rattle.model.specs.Over.{cellsAt, OverAfter, WouldPass, StillOver, GoOnAlike, PlainSum, EveryOver}
+use Rattle.model.specs.Over.{cellsAt, OverAfter, Unfinished, WouldPass, ShownOver, StillOver, GoOnAlike, PlainSum, EveryOver}
 use Rattle.model.proofs.Upd.{not-equal}
 use Rattle.model.proofs.Ports.{number-test}
 use Rattle.model.proofs.Invariant.{others-record}
@@ -44,7 +43,9 @@ use Rattle.model.proofs.NextSteps.{clash, over-runs, total-add}
 use Rattle.model.proofs.Checks.{ready-parts, checks-after, taken-checks}
 use Rattle.model.proofs.ReportBoundCells.{own-record, eight-end}
 use Rattle.model.proofs.ReportBoundValues.{total-small, small-end}
-use Rattle.model.proofs.Demand3.{ready-taken, bit-ready, demand-3}
+use Rattle.model.proofs.Demand3.{ready-taken, ready-given, bit-ready, demand-3}
+use Rattle.model.proofs.SameAnswers.{answer-refused, comparison-refused}
+use Rattle.model.proofs.Stuck.{nobody-stuck}
 
 -- ---- an Add that would pass the largest number
 
@@ -55,10 +56,6 @@ unfolding cellsAfter
 after-add own x found cells cell other e = rw e
 
 -- ---- refusals and lengths
-
-answer-refused : {A : Type 0} (o : Outcome) (a : A) (n p : ℕ) → answer o a ≡ refuses n p → o ≡ refused n p
-answer-refused accepted a n p e = let z : _≡_ {A = ℕ} 0 1 = cc in absurd (omega arith)
-answer-refused (refused m q) a n p e = cc
 
 -- the number of an Add that runs over is none of the others
 abbrev Other : RefusalNumbers → Type 0
@@ -112,13 +109,13 @@ module _ (table : List ℕ) where
       passing f =
           let out : runsOver x (cellsAt table p a) ≡ true = over-runs (runsOver x (cellsAt table p a)) (passes table (endState table p) a x) (f .2) in
           let w = total-add x (cellsAt table p a) (ltb-true largest (total x (cellsAt table p a)) out) in
-          (w .0, w .1, ltb-true a (actorsOf table) (f .0), ltb-true (endState table p .actor a .position) (countOf table a) (f .1), w .2, w .3)
+          (w .0, w .1, (ltb-true a (actorsOf table) (f .0), ltb-true (endState table p .actor a .position) (countOf table a) (f .1)), w .2, w .3)
 
       running : WouldPass table p a → IsOver (endState table p) a
       running w =
           let out : runsOver x (cellsAt table p a) ≡ true =
-          ap (λ (y : Action). runsOver y (cellsAt table p a)) (w .4) ∙ lt-ltb largest _ (w .5) in
-          (lt-ltb a (actorsOf table) (w .2), lt-ltb (endState table p .actor a .position) (countOf table a) (w .3), rw out)
+          ap (λ (y : Action). runsOver y (cellsAt table p a)) (w .3) ∙ lt-ltb largest _ (w .4) in
+          (lt-ltb a (actorsOf table) (w .2 .0), lt-ltb (endState table p .actor a .position) (countOf table a) (w .2 .1), rw out)
 
   -- by numbers of which that of an Add that runs over is none of the others
   module _ (n : RefusalNumbers) (other : Other n) where
@@ -159,17 +156,42 @@ module _ (table : List ℕ) where
         let so = over-after p a h in let w = would-pass p a in (λ e. w .0 (so .0 e), λ f. so .1 (w .1 f))
 
     over-second : (first p : List ℕ) (a : ℕ) → Accepted table first → Accepted table p
-        → (sameOf table first (p ++ (a ∷ [])) ≡ refuses 22 (length p)) ↔ WouldPass table p a
-    unfolding sameOf
+        → (comparisonOf table first (p ++ (a ∷ [])) ≡ refuses 22 (length p)) ↔ WouldPass table p a
     over-second first p a g h =
-        let checks : sameChecks table first (p ++ (a ∷ [])) ≡ checkSchedule secondNumbers table (p ++ (a ∷ [])) =
-        rw (read, taken-checks table firstNumbers initial 0 first g) in
-        let verdict : SameVerdict = cond (equivalent (machine table) initial first (p ++ (a ∷ []))) same different in
+        let second : List ℕ = p ++ (a ∷ []) in
+        let checks : sameChecks table first second ≡ checkSchedule secondNumbers table second = rw (read, taken-checks table firstNumbers initial 0 first g) in
+        let call = comparison-refused table first second 22 (length p) in
         let so = over-checked secondNumbers second-other p a h in
-        let w = would-pass p a in (
-          λ e. w .0 (so .0 (sym checks ∙ answer-refused (sameChecks table first (p ++ (a ∷ []))) verdict 22 (length p) e)),
-          λ f. ap (λ (c : Outcome). answer c verdict) (checks ∙ so .1 (w .1 f)),
-        )
+        let w = would-pass p a in
+        (λ e. w .0 (so .0 (sym checks ∙ call .0 e)), λ f. call .1 (checks ∙ so .1 (w .1 f)))
+
+    -- ---- as the calls show it
+
+    not-ready : (s : Site) (a : ℕ) → nextStep table s a ≡ over → ready table s a ≡ false
+    not-ready s a o = is-false (ready table s a) (λ r. clash o (ready-parts table s a r .2))
+
+    shown-over : (p : List ℕ) (a : ℕ) (now : ReadyAnswer) → IsOver (endState table p) a → readyOf table p ≡ gives now → ShownOver table p a now
+    shown-over p a now f g =
+        record { bit-zero = bit-ready table read p a now g ∙ ap bit (not-ready (endState table p) a (f .2)); status = rw (f .1, f .2) }
+
+    -- nobody is ready where everybody who is not finished is over
+    nobody : (p : List ℕ) → Accepted table p → ((a : ℕ) → Unfinished table p a → OverAfter table p a) → (a : ℕ) → ready table (endState table p) a ≡ false
+    nobody p h each a =
+        is-false (ready table (endState table p) a)
+        (λ r.
+        let parts = ready-parts table (endState table p) a r in
+        let u : Unfinished table p a = (ltb-true a (actorsOf table) (parts .0), ltb-true (endState table p .actor a .position) (countOf table a) (parts .1)) in
+        clash (over-after p a h .0 (each a u) .2) (parts .2))
+
+    only-over : (p : List ℕ) (u : ℕ) → Accepted table p → Unfinished table p u → ((a : ℕ) → Unfinished table p a → OverAfter table p a)
+        → readyOf table p ≡ gives (record { mask = 0; count = 0; ending = stuck })
+    only-over p u h left each =
+        ready-given table read p h
+        ∙ ap gives
+        (nobody-stuck table (endState table p) (nobody p h each) u (lt-ltb u (actorsOf table) (left .0))
+        (lt-ltb (endState table p .actor u .position) (countOf table u) (left .1)))
+
+    -- ---- over for good
 
     still-over : (p more : List ℕ) (a : ℕ) (later : ReadyAnswer) → OverAfter table p a → readyOf table (p ++ more) ≡ gives later
         → StillOver table p more a later
@@ -185,10 +207,7 @@ module _ (table : List ℕ) where
         record {
           others = along .0;
           over-still = over-after (p ++ more) a t .1 (f .0, u, o);
-          bit-zero =
-              bit-ready table read (p ++ more) a later g
-              ∙ ap bit (is-false (ready table (endState table (p ++ more)) a) (λ r. clash o (ready-parts table (endState table (p ++ more)) a r .2)));
-          status = rw (u, o);
+          shown-still = shown-over (p ++ more) a later (f .0, u, o) g;
           same-name = ap (λ (r : Actor). name a (r .position)) end;
           same-action = ap (λ (r : Actor). actionAt table (name a (r .position))) end;
         }
@@ -252,6 +271,8 @@ every-over table read =
     record {
       exactly = over-exactly table read;
       exactly-second = over-second table read;
+      shown = λ p a now e g. shown-over table read p a now (over-after table read p a (ready-taken table read p now g) .0 e) g;
+      only-over = only-over table read;
       never-ready = still-over table read;
       exchanged = go-on-exchanged table read;
       sums = plain-sum table read;

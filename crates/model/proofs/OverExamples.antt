@@ -9,11 +9,11 @@ use Rattle.model.specs.Local.{cellsAfter}
 use Rattle.model.specs.Step.{ready, step}
 use Rattle.model.specs.Ready.{readyAnswer}
 use Rattle.model.specs.Pair.{depends}
-use Rattle.model.specs.Calls.{runOf, readyOf, sameOf}
+use Rattle.model.specs.Calls.{runOf, readyOf, sameOf, comparisonOf}
 use Rattle.model.specs.Page as Page
 use Rattle.model.specs.Claims.{AllHold}
 use Rattle.model.specs.OverExamples.{totals}
 
 pub totals-hold : AllHold totals
-unfolding runOf readyOf sameOf Page.pageOf Page.page readyAnswer depends equivalent readOf decodeAs initial ready step cellsAfter
+unfolding runOf readyOf comparisonOf sameOf Page.pageOf Page.page readyAnswer depends equivalent readOf decodeAs initial ready step cellsAfter
 totals-hold = refl

@@ -10,7 +10,7 @@ use mathlib.Core.List.{List, [], _∷_}
 use lib.Dec.{eqb}
 use borrow.Author.Tests.{eqb-true, eqb-false, eq-eqb, ltb-true}
 use Rattle.table.specs.Format.{actorsOf, countOf}
-use Rattle.table.specs.Promise.{isPost}
+use Rattle.table.specs.Promise.{isCommunication}
 use Rattle.trace.specs.Machine.{Name}
 use Rattle.trace.specs.Schedule.{accepted, final}
 use Rattle.trace.specs.Order.{eqName, mem}
@@ -75,7 +75,7 @@ module _ (table : List ℕ) (s : Site) (r : Reached table s) where
   pub later-unposted : (x : Name) → s .actor (x .actor) .position ≤ x .position → s .mail .comm x ≡ unposted
   later-unposted x h = not-posted _ (is-false _ (λ k. let low = r .posted-below x .0 k .1 in omega arith))
 
-  pub other-unposted : (x : Name) → isPost (actionAt table x) ≡ false → s .mail .comm x ≡ unposted
+  pub other-unposted : (x : Name) → isCommunication (actionAt table x) ≡ false → s .mail .comm x ≡ unposted
   other-unposted x h = not-posted _ (is-false _ (λ k. contrary (r .posted-below x .0 k .0) h))
 
   -- ---- a step keeps it
@@ -88,7 +88,7 @@ module _ (table : List ℕ) (s : Site) (r : Reached table s) where
     next-unposted = later-unposted me (omega arith)
 
     -- the other steps are as posted as they were, and this one if it is a Send or Receive
-    step-own : isPosted (step table s a .mail .comm me) ≡ isPost (nextAction table s a)
+    step-own : isPosted (step table s a .mail .comm me) ≡ isCommunication (nextAction table s a)
     unfolding step
     step-own = own-posted (nextAction table s a) me _ (s .mail) next-unposted
 
@@ -111,12 +111,12 @@ module _ (table : List ℕ) (s : Site) (r : Reached table s) where
 
     step-posted : (x : Name)
         → (isPosted (step table s a .mail .comm x) ≡ true)
-        ↔ ((isPost (actionAt table x) ≡ true) × (x .position < step table s a .actor (x .actor) .position))
+        ↔ ((isCommunication (actionAt table x) ≡ true) × (x .position < step table s a .actor (x .actor) .position))
     step-posted x = go (which (eqName x me))
       where
         go : (eqName x me ≡ true) ⊎ (eqName x me ≡ false)
             → (isPosted (step table s a .mail .comm x) ≡ true)
-            ↔ ((isPost (actionAt table x) ≡ true) × (x .position < step table s a .actor (x .actor) .position))
+            ↔ ((isCommunication (actionAt table x) ≡ true) × (x .position < step table s a .actor (x .actor) .position))
         go (inl e) =
             rw (eqName-true x me e)
             (λ h. (sym step-own ∙ h, omega (arith, own-position table s a)), λ h. step-own ∙ h .0)

@@ -6,7 +6,7 @@ use mathlib.Core.Logic.{_⊎_, inl, inr, _≢_}
 use mathlib.Core.Bool.{true, false, true≢false}
 use mathlib.Core.List.{List, [], _∷_}
 use Rattle.table.specs.declared.Action.{Action}
-use Rattle.table.specs.Promise.{isPost}
+use Rattle.table.specs.Promise.{isCommunication}
 use Rattle.trace.specs.Machine.{Name}
 use Rattle.trace.specs.Order.{eqName, mem}
 use Rattle.trace.proofs.Bools.{contrary, is-false}
@@ -44,32 +44,32 @@ module _ (postOf : Name → Post) (me : Name) (v : ℕ) (m : Mail) (fresh : m .c
 
   meeting-right : (P : Port) → postOf me ≡ mails P → ((mailbox : ℕ) → P ≡ record { mailbox = mailbox; side = receives } → v ≡ 0)
       → (l : List Name) → m .waiting (opposite P) ≡ l → MailRight postOf (meetWith l P me v m)
-  meeting-right P mine zero [] none =
+  meeting-right P posts-there zero [] none =
       record {
-        receive-zero = joined-zero postOf P me v m mine fresh right zero;
-        partner-done = joined-done postOf P me v m mine fresh right;
-        partner-opposite = joined-opposite postOf P me v m mine fresh right;
-        pending-queued = joined-queued postOf P me v m mine fresh right none;
+        receive-zero = joined-zero postOf P me v m posts-there fresh right zero;
+        partner-done = joined-done postOf P me v m posts-there fresh right;
+        partner-opposite = joined-opposite postOf P me v m posts-there fresh right;
+        pending-queued = joined-queued postOf P me v m posts-there fresh right none;
         pending-once = meeting-distinct [] P me v m none (right .pending-once) (not-queued P);
         one-sided = meeting-one-sided [] P me v m none (right .one-sided);
       }
-  meeting-right P mine zero (y ∷ l) found =
+  meeting-right P posts-there zero (y ∷ l) found =
       record {
-        receive-zero = paired-zero postOf P me v m mine fresh right y l found;
-        partner-done = paired-done postOf P me v m mine fresh right y l found;
-        partner-opposite = paired-opposite postOf P me v m mine fresh right y l found;
-        pending-queued = paired-queued postOf P me v m mine fresh right y l found;
+        receive-zero = paired-zero postOf P me v m posts-there fresh right y l found;
+        partner-done = paired-done postOf P me v m posts-there fresh right y l found;
+        partner-opposite = paired-opposite postOf P me v m posts-there fresh right y l found;
+        pending-queued = paired-queued postOf P me v m posts-there fresh right y l found;
         pending-once = meeting-distinct (y ∷ l) P me v m found (right .pending-once) (not-queued P);
         one-sided = meeting-one-sided (y ∷ l) P me v m found (right .one-sided);
       }
 
   pub mailing-right : (p : Post) → postOf me ≡ p → ((mailbox : ℕ) → p ≡ mails (record { mailbox = mailbox; side = receives }) → v ≡ 0)
       → MailRight postOf (mailing p me v m)
-  mailing-right silent mine zero = right
-  mailing-right (mails P) mine zero = meeting-right P mine (λ mailbox e. zero mailbox (ap mails e)) (m .waiting (opposite P)) refl
-  mailing-right (joins n) mine zero = right
-  mailing-right (leaves n) mine zero = right
-  mailing-right notes mine zero = right
+  mailing-right silent posts-there zero = right
+  mailing-right (mails P) posts-there zero = meeting-right P posts-there (λ mailbox e. zero mailbox (ap mails e)) (m .waiting (opposite P)) refl
+  mailing-right (joins n) posts-there zero = right
+  mailing-right (leaves n) posts-there zero = right
+  mailing-right notes posts-there zero = right
 
 -- ---- which steps are posted
 
@@ -78,10 +78,10 @@ meeting-posts : (l : List Name) (P : Port) (me : Name) (v : ℕ) (m : Mail) → 
 meeting-posts [] P me v m = ap isPosted (upd-same name-test (m .comm) me (pending v))
 meeting-posts (y ∷ l) P me v m = ap isPosted (upd-same name-test (upd eqName (m .comm) y (done me _)) me (done y _))
 
-pub own-posted : (x : Action) (me : Name) (v : ℕ) (m : Mail) → m .comm me ≡ unposted → isPosted (mailing (posts x) me v m .comm me) ≡ isPost x
+pub own-posted : (x : Action) (me : Name) (v : ℕ) (m : Mail) → m .comm me ≡ unposted → isPosted (mailing (posts x) me v m .comm me) ≡ isCommunication x
 own-posted x me v m fresh = go (posting x)
   where
-    go : Posting x → isPosted (mailing (posts x) me v m .comm me) ≡ isPost x
+    go : Posting x → isPosted (mailing (posts x) me v m .comm me) ≡ isCommunication x
     go (quiet q) = rw (q .posts-none, q .no-post) (ap isPosted fresh)
     go (sends-to mailbox c e) = rw e (meeting-posts (m .waiting _) _ me v m)
     go (receives-from mailbox c e) = rw e (meeting-posts (m .waiting _) _ me v m)

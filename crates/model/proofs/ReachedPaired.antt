@@ -18,7 +18,7 @@ use Rattle.model.proofs.Upd.{upd-same, upd-other, upd-at}
 use Rattle.model.proofs.Ports.{name-test, port-test, opposite-opposite}
 use Rattle.model.proofs.ReachedQueued.{pending-posted, done-posted, done-not-pending, one-port, other-step}
 
-module _ (postOf : Name → Post) (P : Port) (me : Name) (v : ℕ) (m : Mail) (mine : postOf me ≡ mails P) (fresh : m .comm me ≡ unposted)
+module _ (postOf : Name → Post) (P : Port) (me : Name) (v : ℕ) (m : Mail) (posts-there : postOf me ≡ mails P) (fresh : m .comm me ≡ unposted)
     (right : MailRight postOf m) (oldest : Name) (rest : List Name) (found : m .waiting (opposite P) ≡ oldest ∷ rest) where
   abbrev paired : Mail
   paired = pair P me v oldest rest m
@@ -108,13 +108,13 @@ module _ (postOf : Name → Post) (P : Port) (me : Name) (v : ℕ) (m : Mail) (m
       go (inl e) =
           let same : done oldest value ≡ done y w = sym (e .1) ∙ h in
           let who : y ≡ oldest = cc in
-          let port : P ≡ p = one-port (sym mine ∙ ap postOf (sym (e .0)) ∙ k) in
+          let port : P ≡ p = one-port (sym posts-there ∙ ap postOf (sym (e .0)) ∙ k) in
           ap postOf who ∙ partner-was .1 ∙ ap (λ (q : Port). mails (opposite q)) port
       go (inr (inl e)) =
           let same : done me value ≡ done y w = sym (e .1) ∙ h in
           let who : y ≡ me = cc in
           let port : opposite P ≡ p = one-port (sym (partner-was .1) ∙ ap postOf (sym (e .0)) ∙ k) in
-          ap postOf who ∙ mine ∙ ap mails (sym (opposite-opposite P)) ∙ ap (λ (q : Port). mails (opposite q)) port
+          ap postOf who ∙ posts-there ∙ ap mails (sym (opposite-opposite P)) ∙ ap (λ (q : Port). mails (opposite q)) port
       go (inr (inr e)) = right .partner-opposite x y w p (sym (e .2) ∙ h) k
 
   -- ---- queues

@@ -36,7 +36,7 @@ one-port h = cc
 pub other-step : (m : Mail) (me : Name) → m .comm me ≡ unposted → (x : Name) → isPosted (m .comm x) ≡ true → x ≢ me
 other-step m me fresh x h e = contrary h (ap (λ (y : Name). isPosted (m .comm y)) e ∙ ap isPosted fresh)
 
-module _ (postOf : Name → Post) (P : Port) (me : Name) (v : ℕ) (m : Mail) (mine : postOf me ≡ mails P) (fresh : m .comm me ≡ unposted)
+module _ (postOf : Name → Post) (P : Port) (me : Name) (v : ℕ) (m : Mail) (posts-there : postOf me ≡ mails P) (fresh : m .comm me ≡ unposted)
     (right : MailRight postOf m) where
   abbrev joined : Mail
   joined = enqueue P me v m
@@ -49,7 +49,7 @@ module _ (postOf : Name → Post) (P : Port) (me : Name) (v : ℕ) (m : Mail) (m
       go : ((x ≡ me) × (joined .comm x ≡ pending v)) ⊎ ((x ≢ me) × (joined .comm x ≡ m .comm x)) → value ≡ 0
       go (inl e) =
           let same : pending v ≡ pending value = sym (e .1) ∙ h in
-          let port : P ≡ record { mailbox = mailbox; side = receives } = one-port (sym mine ∙ ap postOf (sym (e .0)) ∙ p) in
+          let port : P ≡ record { mailbox = mailbox; side = receives } = one-port (sym posts-there ∙ ap postOf (sym (e .0)) ∙ p) in
           let none : v ≡ 0 = zero mailbox port in
           cc
       go (inr e) = right .receive-zero x mailbox value p (sym (e .1) ∙ h)
@@ -73,7 +73,7 @@ module _ (postOf : Name → Post) (P : Port) (me : Name) (v : ℕ) (m : Mail) (m
   queued-pending : (R : Port) (x : Name) → mem x (joined .waiting R) ≡ true
       → ((x ≡ me) × (P ≡ R)) ⊎ (mem x (m .waiting R) ≡ true) → (isPending (joined .comm x) ≡ true) × (postOf x ≡ mails R)
   queued-pending R x h (inl e) =
-      (ap (λ (z : Name). isPending (joined .comm z)) (e .0) ∙ ap isPending (upd-same name-test (m .comm) me (pending v)), ap postOf (e .0) ∙ mine ∙ ap mails (e .1))
+      (ap (λ (z : Name). isPending (joined .comm z)) (e .0) ∙ ap isPending (upd-same name-test (m .comm) me (pending v)), ap postOf (e .0) ∙ posts-there ∙ ap mails (e .1))
   queued-pending R x h (inr k) =
       let old = right .pending-queued R x .0 k in
       let ne : x ≢ me = other-step m me fresh x (pending-posted (m .comm x) (old .0)) in
@@ -92,7 +92,7 @@ module _ (postOf : Name → Post) (P : Port) (me : Name) (v : ℕ) (m : Mail) (m
     where
       go : ((x ≡ me) × (joined .comm x ≡ pending v)) ⊎ ((x ≢ me) × (joined .comm x ≡ m .comm x)) → mem x (joined .waiting R) ≡ true
       go (inl e) =
-          let port : P ≡ R = one-port (sym mine ∙ ap postOf (sym (e .0)) ∙ h .1) in
+          let port : P ≡ R = one-port (sym posts-there ∙ ap postOf (sym (e .0)) ∙ h .1) in
           ap (λ (Q : Port). mem x (joined .waiting Q)) (sym port)
           ∙ ap (mem x) (upd-same port-test (m .waiting) P (atEnd (m .waiting P) me))
           ∙ mem-append-right x (m .waiting P) (me ∷ []) (ap (λ (z : Name). mem z (me ∷ [])) (e .0) ∙ mem-head me [])

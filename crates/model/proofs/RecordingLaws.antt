@@ -1,6 +1,6 @@
 -- Two recordings: what the verdict on them looks at and says, by what the same verdict says; and that the longer goes on from the shorter one's end.
 -- Assumes nothing.
-use Prim.Native.Nat.{ℕ, _-_, _≤_, _<_}
+use Prim.Native.Nat.{ℕ, _+_, _-_, _≤_, _<_}
 use native.Mathlib.Nat.{zero-add}
 use native.Mathlib.Omega.{arith}
 use mathlib.Core.Path.{_≡_, refl, sym, _∙_, ap, subst}
@@ -19,14 +19,13 @@ use Rattle.trace.proofs.Bools.{which}
 use Rattle.trace.proofs.Run.{final-append, accepted-append, accepted-after}
 use Rattle.model.specs.Site.{Site, initial}
 use Rattle.model.specs.Schedule.{machine, endState, checkFrom}
-use Rattle.model.specs.Calls.{gives, SameVerdict, same, different, sameOf}
-use Rattle.model.specs.Demand3.{Accepted}
+use Rattle.model.specs.Calls.{SameVerdict, same, different, comparisonOf}
+use Rattle.model.specs.Demand3.{Accepted, Says}
 use Rattle.model.specs.Over.{GoOnAlike}
-use Rattle.model.specs.Recordings.{held, prefixOf, theFirst, theSecond, choose, Part, remainderOf, Slice, remainderIn}
-use Rattle.model.specs.Comparison.{comparisonOf, prefixComparisonOf}
-use Rattle.model.specs.RecordingLaws.{left, longer, shorter, remainder, Split, Continues, EveryRecording}
+use Rattle.model.specs.Recordings.{held, prefixComparisonOf, Recording, theFirst, theSecond, choose, Part, remainderOf, Slice, remainderIn}
+use Rattle.model.specs.RecordingLaws.{remainderPart, longer, shorter, remainder, longerSlice, Handed, Split, Continues, EveryRecording}
 use Rattle.model.proofs.Checks.{checks-after}
-use Rattle.model.proofs.Demand3.{same-given, demand-3}
+use Rattle.model.proofs.Demand3.{says-test, demand-3}
 use Rattle.model.proofs.SameVerdicts.{called-same, called-different, same-either-way}
 use Rattle.model.proofs.Over.{every-over}
 
@@ -59,7 +58,7 @@ split-at short long h =
       counts = sym (ap length all ∙ length-drop (length short) long);
     }
 
-split-of : (p q : List ℕ) → Split (shorter p q) (longer p q) (remainder p q) (left p q .from) (left p q .length)
+split-of : (p q : List ℕ) → Split (shorter p q) (longer p q) (remainder p q) (remainderPart p q .from) (remainderPart p q .length)
 split-of p q =
     by-lengths (length p) (length q)
     (λ (x : Part).
@@ -67,28 +66,26 @@ split-of p q =
     (λ h. split-at p q (omega arith))
     (λ h. split-at q p h)
 
-handed : (a b : Slice) → remainderIn a b .bytes ≡ remainder (a .bytes) (b .bytes)
+chosen-bytes : (r : Recording) (a b : Slice) → choose r a b .bytes ≡ choose r (a .bytes) (b .bytes)
+chosen-bytes theFirst a b = refl
+chosen-bytes theSecond a b = refl
+
+handed : (a b : Slice) → Handed a b
 unfolding remainderIn
 handed a b =
-    by-lengths (length (a .bytes)) (length (b .bytes))
-    (λ (x : Part).
-    take (x .length) (drop (x .from) (choose (x .recording) a b .bytes)) ≡ take (x .length) (drop (x .from) (choose (x .recording) (a .bytes) (b .bytes))))
-    (λ h. refl)
-    (λ h. refl)
+    let part : Part = remainderPart (a .bytes) (b .bytes) in
+    let same-bytes : longerSlice a b .bytes ≡ longer (a .bytes) (b .bytes) = chosen-bytes (part .recording) a b in
+    record {
+      bytes = ap (λ (l : List ℕ). take (part .length) (drop (part .from) l)) same-bytes;
+      block = refl;
+      offset = ap (λ (n : ℕ). longerSlice a b .offset + n) (split-of (a .bytes) (b .bytes) .begins);
+      longer-bytes = same-bytes;
+    }
 
 module _ (table : List ℕ) where
   -- ---- what the verdict looks at
 
   -- of the shorter all
-  first-whole : (p q : List ℕ) → length p ≤ length q → prefixOf table p q ≡ sameOf table p (take (length p) q)
-  unfolding prefixOf
-  first-whole p q l = ap (λ (r : List ℕ). sameOf table r (take (length p) q)) (take-all (length q) p l)
-
-  second-whole : (p q : List ℕ) → length q ≤ length p → prefixOf table p q ≡ sameOf table (take (length q) p) q
-  unfolding prefixOf
-  second-whole p q l = ap (sameOf table (take (length q) p)) (take-all (length p) q l)
-
-  -- and so of the number that comes with it
   pub first-compared : (p q : List ℕ) → length p ≤ length q → prefixComparisonOf table p q ≡ comparisonOf table p (take (length p) q)
   unfolding prefixComparisonOf
   first-compared p q l = ap (λ (r : List ℕ). comparisonOf table r (take (length p) q)) (take-all (length q) p l)
@@ -97,16 +94,16 @@ module _ (table : List ℕ) where
   unfolding prefixComparisonOf
   second-compared p q l = ap (comparisonOf table (take (length q) p)) (take-all (length p) q l)
 
-  unseen-first : (p q more : List ℕ) → length p ≡ length q → prefixOf table (p ++ more) q ≡ sameOf table p q
+  unseen-first : (p q more : List ℕ) → length p ≡ length q → prefixComparisonOf table (p ++ more) q ≡ comparisonOf table p q
   unseen-first p q more e =
-      second-whole (p ++ more) q (omega (arith, length-append p more)) ∙ ap (λ (r : List ℕ). sameOf table r q) (take-at p more (length q) e)
+      second-compared (p ++ more) q (omega (arith, length-append p more)) ∙ ap (λ (r : List ℕ). comparisonOf table r q) (take-at p more (length q) e)
 
-  unseen-second : (p q more : List ℕ) → length p ≡ length q → prefixOf table p (q ++ more) ≡ sameOf table p q
+  unseen-second : (p q more : List ℕ) → length p ≡ length q → prefixComparisonOf table p (q ++ more) ≡ comparisonOf table p q
   unseen-second p q more e =
-      first-whole p (q ++ more) (omega (arith, length-append q more)) ∙ ap (sameOf table p) (take-at q more (length p) (sym e))
+      first-compared p (q ++ more) (omega (arith, length-append q more)) ∙ ap (comparisonOf table p) (take-at q more (length p) (sym e))
 
-  equal-lengths : (p q : List ℕ) → length p ≡ length q → prefixOf table p q ≡ sameOf table p q
-  equal-lengths p q e = first-whole p q (omega arith) ∙ ap (sameOf table p) (take-all (length p) q (omega arith))
+  equal-lengths : (p q : List ℕ) → length p ≡ length q → prefixComparisonOf table p q ≡ comparisonOf table p q
+  equal-lengths p q e = first-compared p q (omega arith) ∙ ap (comparisonOf table p) (take-all (length p) q (omega arith))
 
   held-accepted : (p q : List ℕ) → Accepted table p → Accepted table (held p q)
   held-accepted p q h =
@@ -115,7 +112,7 @@ module _ (table : List ℕ) where
   module _ (read : readOf table ≡ accepted) where
     -- ---- the longer goes on
 
-    goes-on : (part short rest : List ℕ) → sameOf table part short ≡ gives same → Continues table short (part ++ rest) rest
+    goes-on : (part short rest : List ℕ) → Says (comparisonOf table part short) same → Continues table short (part ++ rest) rest
     goes-on part short rest h =
         let c = called-same table read part short .0 h in
         let end : endState table short ≡ endState table part = demand-3 table read .chains (c .2 .0) part short (c .0) (c .2 .1) .1 .ends in
@@ -133,19 +130,19 @@ module _ (table : List ℕ) where
           pages = λ buffer. sym (alike .pages buffer);
         }
 
-    continues-at : (short long : List ℕ) → length short ≤ length long → prefixOf table long short ≡ gives same
+    continues-at : (short long : List ℕ) → length short ≤ length long → Says (prefixComparisonOf table long short) same
         → Continues table short long (take (length long - length short) (drop (length short) long))
-    unfolding prefixOf
+    unfolding prefixComparisonOf
     continues-at short long l h =
         let rest : List ℕ = take (length long - length short) (drop (length short) long) in
         let parts = split-at short long l in
         subst (λ (r : List ℕ). Continues table short r rest) (parts .long) (goes-on (held long short) short rest (rw (parts .short) at h))
 
-    either-way : (p q : List ℕ) (v : SameVerdict) → prefixOf table p q ≡ gives v → prefixOf table q p ≡ gives v
-    unfolding prefixOf
+    either-way : (p q : List ℕ) (v : SameVerdict) → Says (prefixComparisonOf table p q) v → Says (prefixComparisonOf table q p) v
+    unfolding prefixComparisonOf
     either-way p q v h = same-either-way table read (held p q) (held q p) v h
 
-    continues : (p q : List ℕ) → prefixOf table p q ≡ gives same → Continues table (shorter p q) (longer p q) (remainder p q)
+    continues : (p q : List ℕ) → Says (prefixComparisonOf table p q) same → Continues table (shorter p q) (longer p q) (remainder p q)
     continues p q h =
         by-lengths (length p) (length q)
         (λ (x : Part).
@@ -153,25 +150,28 @@ module _ (table : List ℕ) where
         (λ l. continues-at p q (omega arith) (either-way p q same h))
         (λ l. continues-at q p l h)
 
-    accepted-judged : (p q : List ℕ) → Accepted table p → Accepted table q → (v : SameVerdict) × (prefixOf table p q ≡ gives v)
-    unfolding prefixOf
+    accepted-judged : (p q : List ℕ) → Accepted table p → Accepted table q → (v : SameVerdict) × Says (prefixComparisonOf table p q) v
+    unfolding prefixComparisonOf
     accepted-judged p q hp hq = (
       cond (equivalent (machine table) initial (held p q) (held q p)) same different,
-      same-given table read (held p q) (held q p) (held-accepted p q hp) (held-accepted q p hq),
+      says-test table read (held p q) (held q p) (held-accepted p q hp) (held-accepted q p hq) _ .1 refl,
     )
 
 pub every-recording : EveryRecording
-unfolding prefixOf
-every-recording table read =
+unfolding prefixComparisonOf
+every-recording =
     record {
       handed = handed;
       split = split-of;
-      equal-lengths = equal-lengths table;
-      unseen = λ p q more e. (unseen-first table p q more e, unseen-second table p q more e);
-      called-same = λ p q. called-same table read (held p q) (held q p);
-      called-different = λ p q. called-different table read (held p q) (held q p);
-      accepted-judged = accepted-judged table read;
-      either-way = either-way table read;
-      same-either-way = same-either-way table read;
-      continues = continues table read;
+      equal-lengths = equal-lengths;
+      unseen = λ table p q more e. (unseen-first table p q more e, unseen-second table p q more e);
+      accepted-table = λ table read.
+          record {
+            called-same = λ p q. called-same table read (held p q) (held q p);
+            called-different = λ p q. called-different table read (held p q) (held q p);
+            accepted-judged = accepted-judged table read;
+            either-way = either-way table read;
+            same-either-way = same-either-way table read;
+            continues = continues table read;
+          };
     }

@@ -7,7 +7,7 @@ use mathlib.Core.Bool.{true}
 use mathlib.Core.List.{List, [], _∷_, _++_}
 use lib.ListN.{length, length-append}
 use Rattle.table.specs.Format.{actorsOf, mailboxesOf, mutexesOf, countOf}
-use Rattle.table.specs.Promise.{WellFormed, isPost}
+use Rattle.table.specs.Promise.{WellFormed, isCommunication}
 use Rattle.table.specs.Decode.{decodeAs, actionOf}
 use Rattle.trace.specs.Machine.{Name}
 use Rattle.trace.specs.Schedule.{accepted}
@@ -15,11 +15,11 @@ use Rattle.model.specs.Site.{Actor, Port, Comm, unposted, pending, done,
 use Rattle.model.specs.Views.{posts}
 use Rattle.model.specs.Pair.{isNote}
 use Rattle.model.specs.Report.{actorBytes, commBytes, nameBytes, boxBytes, queuedBytes, mutexBytes, parts, boxQueue, actorsPart, actionsPart, boxesPart, mutexesPart, entryBytes, journalBytes, report}
-use Rattle.model.specs.Bound.{actionCount, postsOf, postCount, hasLock, lockersOf, lockerCount, notesOf, noteCount, reportBound, ReportsFit}
+use Rattle.model.specs.Bound.{actionCount, communicationsOf, communicationCount, hasLock, lockersOf, lockerCount, notesOf, noteCount, reportBound, ReportsFit}
 use Rattle.model.specs.Schedule.{machine}
 use Rattle.model.specs.Reached.{Reached}
 use Rattle.model.specs.Cases.{tableA}
-use Rattle.model.proofs.ReportBoundCounts.{total-le, total-most, total-add, total-times, length-parts, howMany-most}
+use Rattle.model.proofs.ReportBoundCounts.{sum-le, sum-most, sum-add, sum-times, length-parts, howMany-most}
 use Rattle.model.proofs.Reached.{reached-end}
 use Rattle.model.proofs.ReportBoundLengths.{boxes-length, box-most, port-most, queue-length, journal-length}
 use Rattle.model.proofs.ReportBoundSteps.{entries-most}
@@ -63,7 +63,7 @@ module _ (table : List ℕ) (s : Site) where
       omega (
         arith,
         length-parts (λ a. actorBytes (s .actor a)) (actorsOf table) 0,
-        total-most (λ a. length (actorBytes (s .actor a))) 33 (actorsOf table) 0 (λ a l h. omega (arith, actor-length (s .actor a))),
+        sum-most (λ a. length (actorBytes (s .actor a))) 33 (actorsOf table) 0 (λ a l h. omega (arith, actor-length (s .actor a))),
       )
 
   -- the actions of one actor
@@ -72,7 +72,7 @@ module _ (table : List ℕ) (s : Site) where
       omega (
         arith,
         length-parts (λ k. commBytes (s .mail .comm (name a k))) (countOf table a) 0,
-        total-most (λ k. length (commBytes (s .mail .comm (name a k)))) 8 (countOf table a) 0
+        sum-most (λ k. length (commBytes (s .mail .comm (name a k)))) 8 (countOf table a) 0
             (λ k l h. omega (arith, comm-length (s .mail .comm (name a k)))),
       )
 
@@ -81,22 +81,22 @@ module _ (table : List ℕ) (s : Site) where
       omega (
         arith,
         length-parts (λ a. parts (λ k. commBytes (s .mail .comm (name a k))) (countOf table a) 0) (actorsOf table) 0,
-        total-le (λ a. length (parts (λ k. commBytes (s .mail .comm (name a k))) (countOf table a) 0)) (λ a. 8 * countOf table a) (actorsOf table) 0
+        sum-le (λ a. length (parts (λ k. commBytes (s .mail .comm (name a k))) (countOf table a) 0)) (λ a. 8 * countOf table a) (actorsOf table) 0
             (λ a l h. own-length a),
-        total-times 8 (countOf table) (actorsOf table) 0,
+        sum-times 8 (countOf table) (actorsOf table) 0,
       )
 
   module _ (r : Reached table s) where
-    boxes-section : length (boxesPart table s) ≤ 2 * mailboxesOf table + 2 * postCount table
+    boxes-section : length (boxesPart table s) ≤ 2 * mailboxesOf table + 2 * communicationCount table
     boxes-section =
         omega (
           arith,
           length-parts (λ m. boxBytes (boxQueue table s m)) (mailboxesOf table) 0,
-          total-le (λ m. length (boxBytes (boxQueue table s m))) (λ m. 2 + 2 * length (boxQueue table s m)) (mailboxesOf table) 0
+          sum-le (λ m. length (boxBytes (boxQueue table s m))) (λ m. 2 + 2 * length (boxQueue table s m)) (mailboxesOf table) 0
               (λ m l h. omega (arith, box-bytes (boxQueue table s m))),
-          total-add (λ m. 2) (λ m. 2 * length (boxQueue table s m)) (mailboxesOf table) 0,
-          total-most (λ m. 2) 2 (mailboxesOf table) 0 (λ m l h. omega arith),
-          total-times 2 (λ m. length (boxQueue table s m)) (mailboxesOf table) 0,
+          sum-add (λ m. 2) (λ m. 2 * length (boxQueue table s m)) (mailboxesOf table) 0,
+          sum-most (λ m. 2) 2 (mailboxesOf table) 0 (λ m l h. omega arith),
+          sum-times 2 (λ m. length (boxQueue table s m)) (mailboxesOf table) 0,
           boxes-length table s r (mailboxesOf table) 0,
         )
 
@@ -105,11 +105,11 @@ module _ (table : List ℕ) (s : Site) where
         omega (
           arith,
           length-parts (λ m. mutexBytes (s .queue m)) (mutexesOf table) 0,
-          total-le (λ m. length (mutexBytes (s .queue m))) (λ m. 1 + 2 * lockersOf table m) (mutexesOf table) 0
+          sum-le (λ m. length (mutexBytes (s .queue m))) (λ m. 1 + 2 * lockersOf table m) (mutexesOf table) 0
               (λ m l h. omega (arith, mutex-bytes (s .queue m), queue-length table s r m)),
-          total-add (λ m. 1) (λ m. 2 * lockersOf table m) (mutexesOf table) 0,
-          total-most (λ m. 1) 1 (mutexesOf table) 0 (λ m l h. omega arith),
-          total-times 2 (lockersOf table) (mutexesOf table) 0,
+          sum-add (λ m. 1) (λ m. 2 * lockersOf table m) (mutexesOf table) 0,
+          sum-most (λ m. 1) 1 (mutexesOf table) 0 (λ m l h. omega arith),
+          sum-times 2 (lockersOf table) (mutexesOf table) 0,
         )
 
     -- the report of a reached state
@@ -135,13 +135,13 @@ module _ (table : List ℕ) (s : Site) where
 module _ (table : List ℕ) (ok : WellFormed table) where
   pub actions-most : actionCount table ≤ 256
   actions-most =
-      omega (arith, total-most (countOf table) 32 (actorsOf table) 0 (λ a l h. ok .actions-most a (omega arith)), ok .actors-most)
+      omega (arith, sum-most (countOf table) 32 (actorsOf table) 0 (λ a l h. ok .actions-most a (omega arith)), ok .actors-most)
 
-  pub posts-most : postCount table ≤ 256
+  pub posts-most : communicationCount table ≤ 256
   posts-most =
       omega (
         arith,
-        total-le (postsOf table) (countOf table) (actorsOf table) 0 (λ a l h. howMany-most (λ k. isPost (actionOf table a k)) (countOf table a) 0),
+        sum-le (communicationsOf table) (countOf table) (actorsOf table) 0 (λ a l h. howMany-most (λ k. isCommunication (actionOf table a k)) (countOf table a) 0),
         actions-most,
       )
 
@@ -149,7 +149,7 @@ module _ (table : List ℕ) (ok : WellFormed table) where
   lockers-most =
       omega (
         arith,
-        total-most (lockersOf table) 8 (mutexesOf table) 0 (λ m l h. omega (arith, howMany-most (hasLock table m) (actorsOf table) 0, ok .actors-most)),
+        sum-most (lockersOf table) 8 (mutexesOf table) 0 (λ m l h. omega (arith, howMany-most (hasLock table m) (actorsOf table) 0, ok .actors-most)),
         ok .mutexes-most,
       )
 
@@ -157,7 +157,7 @@ module _ (table : List ℕ) (ok : WellFormed table) where
   notes-most =
       omega (
         arith,
-        total-le (notesOf table) (countOf table) (actorsOf table) 0
+        sum-le (notesOf table) (countOf table) (actorsOf table) 0
             (λ a l h. howMany-most (λ k. isNote (posts (actionOf table a k))) (countOf table a) 0),
         actions-most,
       )

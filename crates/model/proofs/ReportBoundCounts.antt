@@ -13,30 +13,30 @@ use Rattle.trace.proofs.Bools.{which, or-left, or-right}
 use Rattle.trace.proofs.Count.{one-at-most}
 use Rattle.model.specs.Ready.{bit, howMany}
 use Rattle.model.specs.Report.{parts}
-use Rattle.model.specs.Bound.{total, some}
+use Rattle.model.specs.Bound.{sumOf, some}
 
 -- ---- sums
 
-pub total-le : (f g : ℕ → ℕ) (n k : ℕ) → ((j : ℕ) → k ≤ j → j < k + n → f j ≤ g j) → total f n k ≤ total g n k
-total-le f g zero k h = omega arith
-total-le f g (suc n) k h =
-    omega (arith, h k (omega arith) (omega arith), total-le f g n (suc k) (λ j a b. h j (omega arith) (omega arith)))
+pub sum-le : (f g : ℕ → ℕ) (n k : ℕ) → ((j : ℕ) → k ≤ j → j < k + n → f j ≤ g j) → sumOf f n k ≤ sumOf g n k
+sum-le f g zero k h = omega arith
+sum-le f g (suc n) k h =
+    omega (arith, h k (omega arith) (omega arith), sum-le f g n (suc k) (λ j a b. h j (omega arith) (omega arith)))
 
 -- each number at most c
-pub total-most : (f : ℕ → ℕ) (c n k : ℕ) → ((j : ℕ) → k ≤ j → j < k + n → f j ≤ c) → total f n k ≤ c * n
-total-most f c zero k h = omega arith
-total-most f c (suc n) k h =
-    omega (arith, h k (omega arith) (omega arith), total-most f c n (suc k) (λ j a b. h j (omega arith) (omega arith)))
+pub sum-most : (f : ℕ → ℕ) (c n k : ℕ) → ((j : ℕ) → k ≤ j → j < k + n → f j ≤ c) → sumOf f n k ≤ c * n
+sum-most f c zero k h = omega arith
+sum-most f c (suc n) k h =
+    omega (arith, h k (omega arith) (omega arith), sum-most f c n (suc k) (λ j a b. h j (omega arith) (omega arith)))
 
-pub total-add : (f g : ℕ → ℕ) (n k : ℕ) → total (λ j. f j + g j) n k ≡ total f n k + total g n k
-total-add f g zero k = refl
-total-add f g (suc n) k = omega (arith, total-add f g n (suc k))
+pub sum-add : (f g : ℕ → ℕ) (n k : ℕ) → sumOf (λ j. f j + g j) n k ≡ sumOf f n k + sumOf g n k
+sum-add f g zero k = refl
+sum-add f g (suc n) k = omega (arith, sum-add f g n (suc k))
 
-pub total-times : (c : ℕ) (f : ℕ → ℕ) (n k : ℕ) → total (λ j. c * f j) n k ≡ c * total f n k
-total-times c f zero k = omega arith
-total-times c f (suc n) k = omega (arith, total-times c f n (suc k))
+pub sum-times : (c : ℕ) (f : ℕ → ℕ) (n k : ℕ) → sumOf (λ j. c * f j) n k ≡ c * sumOf f n k
+sum-times c f zero k = omega arith
+sum-times c f (suc n) k = omega (arith, sum-times c f n (suc k))
 
-pub length-parts : (f : ℕ → List ℕ) (n k : ℕ) → length (parts f n k) ≡ total (λ j. length (f j)) n k
+pub length-parts : (f : ℕ → List ℕ) (n k : ℕ) → length (parts f n k) ≡ sumOf (λ j. length (f j)) n k
 length-parts f zero k = refl
 length-parts f (suc n) k = omega (arith, length-append (f k) (parts f n (suc k)), length-parts f n (suc k))
 
@@ -83,15 +83,15 @@ some-of f (suc n) k j a b h = go (which (eqb j k)) (λ e. some-of f n (suc k) j 
         or-right (f k) (some f n (suc k)) (rest (omega arith))
 
 -- of the numbers from k on, a lower one is met nowhere, and any one at most once
-none-below : (c n k : ℕ) → c < k → total (λ m. bit (eqb c m)) n k ≡ 0
+none-below : (c n k : ℕ) → c < k → sumOf (λ m. bit (eqb c m)) n k ≡ 0
 none-below c zero k h = refl
 none-below c (suc n) k h = rw (ne-eqb c k (omega arith)) (omega (arith, none-below c n (suc k) (omega arith)))
 
-pub one-place : (c n k : ℕ) → total (λ m. bit (eqb c m)) n k ≤ 1
+pub one-place : (c n k : ℕ) → sumOf (λ m. bit (eqb c m)) n k ≤ 1
 one-place c zero k = omega arith
 one-place c (suc n) k = go (which (eqb c k)) (one-place c n (suc k))
   where
-    go : (eqb c k ≡ true) ⊎ (eqb c k ≡ false) → total (λ m. bit (eqb c m)) n (suc k) ≤ 1 → total (λ m. bit (eqb c m)) (suc n) k ≤ 1
+    go : (eqb c k ≡ true) ⊎ (eqb c k ≡ false) → sumOf (λ m. bit (eqb c m)) n (suc k) ≤ 1 → sumOf (λ m. bit (eqb c m)) (suc n) k ≤ 1
     go (inl e) rest =
         let here : c ≡ k = eqb-true c k e in
         omega (arith, one-at-most (eqb c k), none-below c n (suc k) (omega arith))

@@ -12,7 +12,7 @@ use borrow.Author.Tests.{eq-eqb, ltb-true, ltb-false}
 use lib.ListN.{length, length-append, length-map}
 use Rattle.table.specs.declared.Action.{Action}
 use Rattle.table.specs.Format.{actorsOf, countOf}
-use Rattle.table.specs.Promise.{isPost}
+use Rattle.table.specs.Promise.{isCommunication}
 use Rattle.trace.specs.Machine.{Name}
 use Rattle.trace.specs.Order.{mem}
 use Rattle.trace.specs.Inversions.{count}
@@ -24,9 +24,9 @@ use Rattle.model.specs.Ready.{bit}
 use Rattle.model.specs.Pair.{isJoin, isNote}
 use Rattle.model.specs.Step.{actionAt}
 use Rattle.model.specs.Report.{boxQueue}
-use Rattle.model.specs.Bound.{total, postCount, hasLock, lockersOf, noteCount}
+use Rattle.model.specs.Bound.{sumOf, communicationCount, hasLock, lockersOf, noteCount}
 use Rattle.model.specs.Reached.{actorsIn, notedIn, Reached}
-use Rattle.model.proofs.ReportBoundCounts.{total-le, total-most, howMany-most, some-of, one-place}
+use Rattle.model.proofs.ReportBoundCounts.{sum-le, sum-most, howMany-most, some-of, one-place}
 use Rattle.model.proofs.ReportBoundNames.{allNames, all-names, distinct-count, count-all, counts-apart}
 use Rattle.model.proofs.ReportBoundQueues.{once-count}
 use Rattle.model.proofs.QueuedDepths.{Locked, queued-locked}
@@ -41,14 +41,14 @@ toBox m (joins n) = false
 toBox m (leaves n) = false
 toBox m notes = false
 
-none-posted : (n k : ℕ) → total (λ m. bit false) n k ≤ 0
-none-posted n k = omega (arith, total-most (λ m. 0) 0 n k (λ j a b. omega arith))
+none-posted : (n k : ℕ) → sumOf (λ m. bit false) n k ≤ 0
+none-posted n k = omega (arith, sum-most (λ m. 0) 0 n k (λ j a b. omega arith))
 
 -- a Send or Receive goes to one mailbox, any other action to none
-one-box : (x : Action) (n k : ℕ) → total (λ m. bit (toBox m (posts x))) n k ≤ bit (isPost x)
+one-box : (x : Action) (n k : ℕ) → sumOf (λ m. bit (toBox m (posts x))) n k ≤ bit (isCommunication x)
 one-box x n k = go (posting x)
   where
-    go : Posting x → total (λ m. bit (toBox m (posts x))) n k ≤ bit (isPost x)
+    go : Posting x → sumOf (λ m. bit (toBox m (posts x))) n k ≤ bit (isCommunication x)
     go (quiet q) = rw (q .posts-none, q .no-post) (none-posted n k)
     go (sends-to mailbox c e) = rw e (one-place mailbox n k)
     go (receives-from mailbox c e) = rw e (one-place mailbox n k)
@@ -104,29 +104,29 @@ module _ (table : List ℕ) (s : Site) (r : Reached table s) where
           )
 
   -- any range of mailboxes
-  posted-apart : (n k : ℕ) → total postedTo n k ≤ count (λ x. isPost (actionAt table x)) (allNames table)
+  posted-apart : (n k : ℕ) → sumOf postedTo n k ≤ count (λ x. isCommunication (actionAt table x)) (allNames table)
   posted-apart n k =
-      counts-apart (λ m x. toBox m (posts (actionAt table x))) (λ x. isPost (actionAt table x)) n k (λ x. one-box (actionAt table x) n k)
+      counts-apart (λ m x. toBox m (posts (actionAt table x))) (λ x. isCommunication (actionAt table x)) n k (λ x. one-box (actionAt table x) n k)
       (allNames table)
 
-  pub boxes-length : (n k : ℕ) → total (λ m. length (boxQueue table s m)) n k ≤ postCount table
+  pub boxes-length : (n k : ℕ) → sumOf (λ m. length (boxQueue table s m)) n k ≤ communicationCount table
   boxes-length n k =
       omega (
         arith,
-        total-le (λ m. length (boxQueue table s m)) postedTo n k (λ m a b. box-length m),
+        sum-le (λ m. length (boxQueue table s m)) postedTo n k (λ m a b. box-length m),
         posted-apart n k,
-        count-all (λ x. isPost (actionAt table x)) table,
+        count-all (λ x. isCommunication (actionAt table x)) table,
       )
 
   -- one mailbox
-  pub box-most : (m : ℕ) → length (boxQueue table s m) ≤ postCount table
+  pub box-most : (m : ℕ) → length (boxQueue table s m) ≤ communicationCount table
   box-most m = omega (arith, boxes-length 1 m)
 
   -- and one side of it
-  pub port-most : (p : Port) → length (s .mail .waiting p) ≤ postCount table
+  pub port-most : (p : Port) → length (s .mail .waiting p) ≤ communicationCount table
   port-most p = go (p .side)
     where
-      both : length (s .mail .waiting (portOf (p .mailbox) sends)) + length (s .mail .waiting (portOf (p .mailbox) receives)) ≤ postCount table
+      both : length (s .mail .waiting (portOf (p .mailbox) sends)) + length (s .mail .waiting (portOf (p .mailbox) receives)) ≤ communicationCount table
       both =
           omega (
             arith,
@@ -134,7 +134,7 @@ module _ (table : List ℕ) (s : Site) (r : Reached table s) where
             length-append (s .mail .waiting (portOf (p .mailbox) sends)) (s .mail .waiting (portOf (p .mailbox) receives)),
           )
 
-      go : (d : Side) → length (s .mail .waiting (portOf (p .mailbox) d)) ≤ postCount table
+      go : (d : Side) → length (s .mail .waiting (portOf (p .mailbox) d)) ≤ communicationCount table
       go sends = omega (arith, both)
       go receives = omega (arith, both)
 

@@ -21,8 +21,8 @@ use Rattle.trace.proofs.Remove.{mem-remove}
 use Rattle.trace.proofs.Count.{count-remove}
 use Rattle.model.specs.Site.{name}
 use Rattle.model.specs.Ready.{bit, howMany}
-use Rattle.model.specs.Bound.{total}
-use Rattle.model.proofs.ReportBoundCounts.{total-add}
+use Rattle.model.specs.Bound.{sumOf}
+use Rattle.model.proofs.ReportBoundCounts.{sum-add}
 
 -- ---- a list that holds no name twice is no longer than the count
 
@@ -103,23 +103,23 @@ count-row f a zero k = refl
 count-row f a (suc n) k = ap (λ (r : ℕ). bit (f (name a k)) + r) (count-row f a n (suc k))
 
 count-rows : (f : Name → Bool) (table : List ℕ) (n a : ℕ)
-    → count f (rows table n a) ≡ total (λ b. howMany (λ j. f (name b j)) (countOf table b) 0) n a
+    → count f (rows table n a) ≡ sumOf (λ b. howMany (λ j. f (name b j)) (countOf table b) 0) n a
 count-rows f table zero a = refl
 count-rows f table (suc n) a =
     omega (arith, count-append f (row a (countOf table a) 0) (rows table n (suc a)), count-row f a (countOf table a) 0, count-rows f table n (suc a))
 
 -- counted name by name is counted actor by actor
 pub count-all : (f : Name → Bool) (table : List ℕ)
-    → count f (allNames table) ≡ total (λ b. howMany (λ j. f (name b j)) (countOf table b) 0) (actorsOf table) 0
+    → count f (allNames table) ≡ sumOf (λ b. howMany (λ j. f (name b j)) (countOf table b) 0) (actorsOf table) 0
 count-all f table = count-rows f table (actorsOf table) 0
 
 -- what passes at most one of several tests, and then another: the counts of the several come to no more than that other's
-pub counts-apart : (f : ℕ → Name → Bool) (g : Name → Bool) (n k : ℕ) → ((x : Name) → total (λ m. bit (f m x)) n k ≤ bit (g x)) → (l : List Name)
-    → total (λ m. count (f m) l) n k ≤ count g l
+pub counts-apart : (f : ℕ → Name → Bool) (g : Name → Bool) (n k : ℕ) → ((x : Name) → sumOf (λ m. bit (f m x)) n k ≤ bit (g x)) → (l : List Name)
+    → sumOf (λ m. count (f m) l) n k ≤ count g l
 counts-apart f g n k h [] = none n k
   where
-    none : (n k : ℕ) → total (λ m. 0) n k ≤ 0
+    none : (n k : ℕ) → sumOf (λ m. 0) n k ≤ 0
     none zero k = omega arith
     none (suc n) k = omega (arith, none n (suc k))
 counts-apart f g n k h (x ∷ l) =
-    omega (arith, total-add (λ m. bit (f m x)) (λ m. count (f m) l) n k, h x, counts-apart f g n k h l)
+    omega (arith, sum-add (λ m. bit (f m x)) (λ m. count (f m) l) n k, h x, counts-apart f g n k h l)

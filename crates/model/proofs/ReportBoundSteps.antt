@@ -16,30 +16,30 @@ use Rattle.trace.proofs.Run.{first-ready, rest-accepted}
 use Rattle.model.specs.Site.{Actor, Site, initial}
 use Rattle.model.specs.Step.{ready, step}
 use Rattle.model.specs.Schedule.{machine}
-use Rattle.model.specs.Bound.{total, actionCount}
+use Rattle.model.specs.Bound.{sumOf, actionCount}
 use Rattle.model.specs.Reached.{Reached}
 use Rattle.model.proofs.Invariant.{own-position, others-record}
-use Rattle.model.proofs.ReportBoundCounts.{total-le}
+use Rattle.model.proofs.ReportBoundCounts.{sum-le}
 use Rattle.model.proofs.Checks.{ready-parts}
 use Rattle.model.proofs.Reached.{reached-initial, reached-final}
 
 -- one number of a sum raised by one
-total-raised : (f g : ℕ → ℕ) (a n k : ℕ) → k ≤ a → a < k + n → g a ≡ suc (f a) → ((j : ℕ) → j ≢ a → g j ≡ f j)
-    → total g n k ≡ suc (total f n k)
-total-raised f g a zero k l h own other = absurd (omega arith)
-total-raised f g a (suc n) k l h own other = go (which (eqb k a)) (λ e. total-raised f g a n (suc k) e (omega arith) own other)
+sum-raised : (f g : ℕ → ℕ) (a n k : ℕ) → k ≤ a → a < k + n → g a ≡ suc (f a) → ((j : ℕ) → j ≢ a → g j ≡ f j)
+    → sumOf g n k ≡ suc (sumOf f n k)
+sum-raised f g a zero k l h own other = absurd (omega arith)
+sum-raised f g a (suc n) k l h own other = go (which (eqb k a)) (λ e. sum-raised f g a n (suc k) e (omega arith) own other)
   where
     -- past that number
-    same : (k ≡ a) → total g n (suc k) ≡ total f n (suc k)
+    same : (k ≡ a) → sumOf g n (suc k) ≡ sumOf f n (suc k)
     same e =
         omega (
           arith,
-          total-le g f n (suc k) (λ j b c. omega (arith, other j (omega arith))),
-          total-le f g n (suc k) (λ j b c. omega (arith, other j (omega arith))),
+          sum-le g f n (suc k) (λ j b c. omega (arith, other j (omega arith))),
+          sum-le f g n (suc k) (λ j b c. omega (arith, other j (omega arith))),
         )
 
-    go : (eqb k a ≡ true) ⊎ (eqb k a ≡ false) → (suc k ≤ a → total g n (suc k) ≡ suc (total f n (suc k)))
-        → total g (suc n) k ≡ suc (total f (suc n) k)
+    go : (eqb k a ≡ true) ⊎ (eqb k a ≡ false) → (suc k ≤ a → sumOf g n (suc k) ≡ suc (sumOf f n (suc k)))
+        → sumOf g (suc n) k ≡ suc (sumOf f (suc n) k)
     go (inl e) rest =
         let here : k ≡ a = eqb-true k a e in
         let raised : g k ≡ suc (f k) = rw here own in
@@ -51,11 +51,11 @@ total-raised f g a (suc n) k l h own other = go (which (eqb k a)) (λ e. total-r
 module _ (table : List ℕ) where
   -- the steps that all actors have taken
   abbrev pub taken : Site → ℕ
-  taken s = total (λ a. s .actor a .position) (actorsOf table) 0
+  taken s = sumOf (λ a. s .actor a .position) (actorsOf table) 0
 
   pub step-taken : (s : Site) (a : ℕ) → ready table s a ≡ true → taken (step table s a) ≡ suc (taken s)
   step-taken s a r =
-      total-raised (λ b. s .actor b .position) (λ b. step table s a .actor b .position) a (actorsOf table) 0 (omega arith)
+      sum-raised (λ b. s .actor b .position) (λ b. step table s a .actor b .position) a (actorsOf table) 0 (omega arith)
       (omega (arith, ltb-true a (actorsOf table) (ready-parts table s a r .0))) (own-position table s a)
       (λ b ne. ap (λ (c : Actor). c .position) (others-record table s b a ne))
 
@@ -74,7 +74,7 @@ module _ (table : List ℕ) where
       omega (
         arith,
         schedule-taken s p h,
-        total-le (λ a. final (machine table) s p .actor a .position) (countOf table) (actorsOf table) 0
+        sum-le (λ a. final (machine table) s p .actor a .position) (countOf table) (actorsOf table) 0
             (λ a l b. reached-final table s p r h .position-most a),
       )
 

@@ -8,7 +8,7 @@ use mathlib.Core.List.{List}
 use lib.ListN.{length}
 use Rattle.table.specs.Format.{actorsOf, mailboxesOf, mutexesOf, countOf}
 use Rattle.table.specs.Decode.{actionOf}
-use Rattle.table.specs.Promise.{isPost}
+use Rattle.table.specs.Promise.{isCommunication}
 use Rattle.trace.specs.Schedule.{accepted}
 use Rattle.model.specs.Site.{initial}
 use Rattle.model.specs.Views.{posts}
@@ -19,9 +19,9 @@ use Rattle.model.specs.Schedule.{machine, endState}
 use Rattle.model.specs.Calls.{reportRoom}
 
 -- of the numbers `f k`, `f (k + 1)`, .., `n` of them: the sum; and of so many tests, whether some holds
-abbrev pub total : (ℕ → ℕ) → ℕ → ℕ → ℕ
-total f zero k = 0
-total f (suc n) k = f k + total f n (suc k)
+abbrev pub sumOf : (ℕ → ℕ) → ℕ → ℕ → ℕ
+sumOf f zero k = 0
+sumOf f (suc n) k = f k + sumOf f n (suc k)
 
 abbrev pub some : (ℕ → Bool) → ℕ → ℕ → Bool
 some f zero k = false
@@ -30,14 +30,14 @@ some f (suc n) k = f k || some f n (suc k)
 module _ (table : List ℕ) where
   -- the number of actions of all actors
   abbrev pub actionCount : ℕ
-  actionCount = total (countOf table) (actorsOf table) 0
+  actionCount = sumOf (countOf table) (actorsOf table) 0
 
   -- the number of Sends and Receives: of an actor, and of all
-  abbrev pub postsOf : ℕ → ℕ
-  postsOf a = howMany (λ k. isPost (actionOf table a k)) (countOf table a) 0
+  abbrev pub communicationsOf : ℕ → ℕ
+  communicationsOf a = howMany (λ k. isCommunication (actionOf table a k)) (countOf table a) 0
 
-  abbrev pub postCount : ℕ
-  postCount = total postsOf (actorsOf table) 0
+  abbrev pub communicationCount : ℕ
+  communicationCount = sumOf communicationsOf (actorsOf table) 0
 
   -- an actor has a Lock of a mutex, Lock being the action that joins one; and the number of actors that have
   abbrev pub hasLock : ℕ → ℕ → Bool
@@ -47,18 +47,18 @@ module _ (table : List ℕ) where
   lockersOf m = howMany (hasLock m) (actorsOf table) 0
 
   abbrev pub lockerCount : ℕ
-  lockerCount = total lockersOf (mutexesOf table) 0
+  lockerCount = sumOf lockersOf (mutexesOf table) 0
 
   -- the number of Notes, a Note being the action that adds to the journal: of an actor, and of all
   abbrev pub notesOf : ℕ → ℕ
   notesOf a = howMany (λ k. isNote (posts (actionOf table a k))) (countOf table a) 0
 
   abbrev pub noteCount : ℕ
-  noteCount = total notesOf (actorsOf table) 0
+  noteCount = sumOf notesOf (actorsOf table) 0
 
   unfoldable pub reportBound : ℕ
   reportBound =
-      33 * actorsOf table + 8 * actionCount + 2 * mailboxesOf table + 2 * postCount + mutexesOf table + 2 * lockerCount + 2 + 6 * noteCount
+      33 * actorsOf table + 8 * actionCount + 2 * mailboxesOf table + 2 * communicationCount + mutexesOf table + 2 * lockerCount + 2 + 6 * noteCount
 
 -- no report passes the table's bound, and the bound of an accepted table does not pass 4,514
 pub record ReportsFit (table : List ℕ) : Type 0 where

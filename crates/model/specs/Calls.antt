@@ -10,6 +10,7 @@ use Rattle.table.specs.Format.{actorsOf, countOf}
 use Rattle.table.specs.Read.{readOf}
 use Rattle.trace.specs.Machine.{Name}
 use Rattle.trace.specs.Same.{equivalent}
+use Rattle.trace.specs.Search.{pairsCompared}
 use Rattle.model.specs.Site.{initial}
 use Rattle.model.specs.Ready.{ReadyAnswer, readyAnswer}
 use Rattle.model.specs.Pair.{depends}
@@ -89,5 +90,18 @@ abbrev pub sameChecks : List ℕ → List ℕ → List ℕ → Outcome
 sameChecks table first second =
     readOf table ⨾ checkSchedule firstNumbers table first ⨾ checkSchedule secondNumbers table second
 
+-- the verdict
 unfoldable pub sameOf : (table first second : List ℕ) → Result SameVerdict
 sameOf table first second = answer (sameChecks table first second) (cond (equivalent (machine table) initial first second) same different)
+
+-- what the call answers: the verdict, and how many pairs of steps were compared (document 02, W6; what the number tells is stated in `ComparisonLaws`)
+pub record Comparison : Type 0 where
+  pub verdict : SameVerdict
+  pub pairs : ℕ
+
+abbrev pub beside : (pairs : ℕ) → Result SameVerdict → Result Comparison
+beside pairs (gives verdict) = gives (record { verdict = verdict; pairs = pairs })
+beside pairs (refuses number position) = refuses number position
+
+unfoldable pub comparisonOf : (table first second : List ℕ) → Result Comparison
+comparisonOf table first second = beside (pairsCompared (machine table) initial first second) (sameOf table first second)

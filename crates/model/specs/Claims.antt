@@ -16,14 +16,14 @@ use Rattle.model.specs.Site.{Entry, Queued, initial}
 use Rattle.model.specs.Ready.{ReadyAnswer}
 use Rattle.model.specs.Report.{report}
 use Rattle.model.specs.Schedule.{machine, endState}
-use Rattle.model.specs.Calls.{Result, gives, refuses, Filled, reportRoom, runOf, readyOf, PairVerdict, pairOf, SameVerdict, sameOf}
-use Rattle.model.specs.Recordings.{prefixOf, Part, remainderOf, Slice, remainderIn}
-use Rattle.model.specs.Comparison.{Comparison, comparisonOf, prefixComparisonOf}
+use Rattle.model.specs.Calls.{Result, gives, refuses, Filled, reportRoom, runOf, readyOf, PairVerdict, pairOf, SameVerdict, Comparison, comparisonOf}
+use Rattle.model.specs.Recordings.{prefixComparisonOf, Part, remainderOf, Slice, remainderIn}
 use Rattle.model.specs.Scheduler.{scheduleRoom}
 use Rattle.model.specs.Draw.{draw, drawOf}
 use Rattle.model.specs.Route.{routeChecks}
 use Rattle.model.specs.Text.{ascii, line}
 use Rattle.model.specs.Page.{pageRoom, pageOf}
+use Rattle.model.specs.ComparisonLaws.{verdictIn}
 
 -- two lists of numbers are equal
 abbrev pub eqList : List ℕ → List ℕ → Bool
@@ -74,15 +74,15 @@ pub data Question : Type 0 where
   -- the result of the page call with a buffer of so many zeros; the page that it leaves in 816 zeros
   pageIn : (room : ℕ) (table schedule : List ℕ) → Question
   page : (table schedule : List ℕ) → Question
-  -- the results of ready, pair and same
+  -- the results of ready and pair
   ready : (table schedule : List ℕ) → Question
   pair : (table : List ℕ) (x y : Name) → Question
-  areSame : (table first second : List ℕ) → Question
-  -- the answer of the call same, and of the call prefix: the verdict, and how many pairs were compared
+  -- the answer of the call same, and of the call prefix: the verdict, and how many pairs were compared; and the verdict in it alone
   compares : (table first second : List ℕ) → Question
   comparesParts : (table first second : List ℕ) → Question
-  -- the verdict on two recordings; their remainder, by their lengths and as bytes where they stand
+  areSame : (table first second : List ℕ) → Question
   prefix : (table first second : List ℕ) → Question
+  -- the remainder of two recordings, by their lengths and as bytes where they stand
   remains : (firstLength secondLength : ℕ) → Question
   remainder : (first second : Slice) → Question
   -- what a draw makes of x; the result of the draw call with a buffer of so many zeros; the entries that it leaves in 256 zeros; all that it leaves
@@ -112,7 +112,7 @@ pub data Answer : Type 0 where
   paired : Result PairVerdict → Answer
   judged : Result SameVerdict → Answer
   counted : Result Comparison → Answer
-  left : Part → Answer
+  part : Part → Answer
   handed : Slice → Answer
   routed : Bool → Answer
   ended : Ends → Answer
@@ -129,11 +129,11 @@ ask (pageIn room table schedule) = ran (pageOf table schedule (replicate room 0)
 ask (page table schedule) = written (writtenBy (pageOf table schedule (replicate pageRoom 0)))
 ask (ready table schedule) = readied (readyOf table schedule)
 ask (pair table x y) = paired (pairOf table x y)
-ask (areSame table first second) = judged (sameOf table first second)
 ask (compares table first second) = counted (comparisonOf table first second)
 ask (comparesParts table first second) = counted (prefixComparisonOf table first second)
-ask (prefix table first second) = judged (prefixOf table first second)
-ask (remains firstLength secondLength) = left (remainderOf firstLength secondLength)
+ask (areSame table first second) = judged (verdictIn (comparisonOf table first second))
+ask (prefix table first second) = judged (verdictIn (prefixComparisonOf table first second))
+ask (remains firstLength secondLength) = part (remainderOf firstLength secondLength)
 ask (remainder first second) = handed (remainderIn first second)
 ask (nextX x) = holds (draw x)
 ask (drawIn room table seed) = ran (drawOf table seed (replicate room 0) .result)

@@ -1,4 +1,4 @@
--- What the number of pairs compared tells (document 02, W6), of every table that the reader accepts. `proofs/ComparisonLaws.antt` proves it.
+-- What the number of pairs compared tells (document 02, W6). `proofs/ComparisonLaws.antt` proves it.
 -- Assumes nothing: these are definitions.
 use Prim.Native.Nat.{ℕ, _+_, _*_, _-_, _/_, _<_, _≤_}
 use mathlib.Core.Path.{_≡_}
@@ -13,9 +13,7 @@ use Rattle.trace.specs.Order.{before}
 use Rattle.trace.specs.Same.{sameSteps}
 use Rattle.model.specs.Site.{initial}
 use Rattle.model.specs.Schedule.{machine}
-use Rattle.model.specs.Calls.{Result, gives, refuses, pairOf, dependent, SameVerdict, same, different, sameOf}
-use Rattle.model.specs.Recordings.{prefixOf}
-use Rattle.model.specs.Comparison.{Comparison, comparisonOf, prefixComparisonOf}
+use Rattle.model.specs.Calls.{Result, gives, refuses, pairOf, dependent, SameVerdict, same, different, sameOf, Comparison, comparisonOf}
 use Rattle.model.specs.Demand3.{Accepted, stepName}
 
 -- the verdict in an answer
@@ -52,10 +50,8 @@ module _ (table p q : List ℕ) where
   abbrev pub Answers : SameVerdict → ℕ → Type 0
   Answers verdict pairs = comparisonOf table p q ≡ gives (record { verdict = verdict; pairs = pairs })
 
+-- of a table that the reader accepts
 pub record Comparisons (table : List ℕ) : Type 0 where
-  -- the verdict is that of `sameOf` and `prefixOf`, refused inputs too
-  pub verdicts : (p q : List ℕ) → verdictIn (comparisonOf table p q) ≡ sameOf table p q
-  pub prefix-verdicts : (p q : List ℕ) → verdictIn (prefixComparisonOf table p q) ≡ prefixOf table p q
   -- "all when same"
   pub all-compared : (p q : List ℕ) (n : ℕ) → Answers table p q same n → n ≡ allPairs (length p)
   -- "0 when lengths differ or the two did not run the same steps"
@@ -65,13 +61,15 @@ pub record Comparisons (table : List ℕ) : Type 0 where
       → (i : ℕ) × (j : ℕ) × FirstCrossed table p q i j × (n ≡ numberTelling i j)
   pub told : (p q : List ℕ) (i j : ℕ) → Accepted table p → Accepted table q → sameSteps (machine table) initial p q ≡ true → FirstCrossed table p q i j
       → Answers table p q different (numberTelling i j)
-  -- one pair for each number from 1 on
-  pub one-pair : (i j k l : ℕ) → i < j → k < l → numberTelling i j ≡ numberTelling k l → (i ≡ k) × (j ≡ l)
-  pub some-pair : (m n : ℕ) → 0 < n → n ≤ allPairs m → (i : ℕ) × (j : ℕ) × (i < j) × (j < m) × (n ≡ numberTelling i j)
   -- "different" with a number above 0 is said exactly where the two run the same steps and some pair is crossed
   pub found : (p q : List ℕ) → Accepted table p → Accepted table q
       → ((n : ℕ) × (0 < n) × Answers table p q different n)
       ↔ ((sameSteps (machine table) initial p q ≡ true) × ((i : ℕ) × (j : ℕ) × Crossed table p q i j))
 
-abbrev pub EveryComparison : Type 0
-EveryComparison = (table : List ℕ) → readOf table ≡ accepted → Comparisons table
+pub record EveryComparison : Type 0 where
+  -- of any table, one that the reader refuses too: the verdict beside the number is that of `sameOf`
+  pub verdicts : (table p q : List ℕ) → verdictIn (comparisonOf table p q) ≡ sameOf table p q
+  -- one pair for each number from 1 on
+  pub one-pair : (i j k l : ℕ) → i < j → k < l → numberTelling i j ≡ numberTelling k l → (i ≡ k) × (j ≡ l)
+  pub some-pair : (m n : ℕ) → 0 < n → n ≤ allPairs m → (i : ℕ) × (j : ℕ) × (i < j) × (j < m) × (n ≡ numberTelling i j)
+  pub accepted-table : (table : List ℕ) → readOf table ≡ accepted → Comparisons table

@@ -20,7 +20,7 @@ use Rattle.model.specs.Ready.{ReadyAnswer}
 use Rattle.model.specs.ReadyMask.{bitOf}
 use Rattle.model.specs.Report.{report}
 use Rattle.model.specs.Schedule.{machine, endState}
-use Rattle.model.specs.Calls.{gives, runOf, readyOf, pairOf, independent, sameOf, same, different}
+use Rattle.model.specs.Calls.{Result, gives, runOf, readyOf, pairOf, independent, SameVerdict, same, different, Comparison, comparisonOf}
 
 module _ (table : List ℕ) where
   -- the schedule is accepted from a fresh site
@@ -30,6 +30,10 @@ module _ (table : List ℕ) where
   -- the name of the step that entry k of a schedule runs
   abbrev pub stepName : List ℕ → ℕ → Name
   stepName p k = getD (names (machine table) initial p) k (name 0 0)
+
+-- an answer of the call same has this verdict, with some number of pairs
+abbrev pub Says : Result Comparison → SameVerdict → Type 0
+Says answer v = (n : ℕ) × (answer ≡ gives (record { verdict = v; pairs = n }))
 
 -- a schedule is accepted and its end is another's: the state, the journal in it, the report, all that a run leaves in any buffer, and the mask, the
 -- number ready and the ending
@@ -50,9 +54,10 @@ pub record StillReady (table p more : List ℕ) (a : ℕ) (later : ReadyAnswer) 
 pub record Demand3 (table : List ℕ) : Type 0 where
   -- a schedule is accepted exactly when the call ready gives an answer
   pub accepts : (p : List ℕ) → Accepted table p ↔ ((now : ReadyAnswer) × (readyOf table p ≡ gives now))
-  -- an exchange of entries k and k + 1 of an accepted schedule is one exactly when the call pair finds their steps independent
-  pub exchanges : (p : List ℕ) (k : ℕ) → Accepted table p → suc k < length p
-      → (pairOf table (stepName table p k) (stepName table p (suc k)) ≡ gives independent) ↔ Exchange (machine table) initial k p
+  -- an exchange at k is one exactly when the schedule is accepted, it has an entry k + 1, and the call pair finds the two steps independent
+  pub exchanges : (p : List ℕ) (k : ℕ)
+      → Exchange (machine table) initial k p
+      ↔ (Accepted table p × (suc k < length p) × (pairOf table (stepName table p k) (stepName table p (suc k)) ≡ gives independent))
   -- along a chain from an accepted schedule, each schedule on the way and the last one end alike
   pub chains : (chain p q : List ℕ) → Accepted table p → Chain (machine table) initial chain p q
       → ((n : ℕ) → EndsAlike table p (replay (take n chain) p)) × EndsAlike table p q
@@ -61,9 +66,9 @@ pub record Demand3 (table : List ℕ) : Type 0 where
       → readyOf table (p ++ more) ≡ gives later → StillReady table p more a later
   -- two accepted schedules are called the same exactly when a chain leads from the first to the second, and different in every other case
   pub called-same : (p q : List ℕ) → Accepted table p → Accepted table q
-      → (sameOf table p q ≡ gives same) ↔ Chained (machine table) initial p q
+      → Says (comparisonOf table p q) same ↔ Chained (machine table) initial p q
   pub called-different : (p q : List ℕ) → Accepted table p → Accepted table q
-      → (sameOf table p q ≡ gives different) ↔ (¬ Chained (machine table) initial p q)
+      → Says (comparisonOf table p q) different ↔ (¬ Chained (machine table) initial p q)
 
 -- demand 3: it holds of every table that the reader accepts
 abbrev pub EveryTable : Type 0

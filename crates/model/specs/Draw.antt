@@ -1,4 +1,4 @@
--- The drawn load (document 02, W4): a schedule made from a seed.
+-- The drawn schedule (document 02, W4): a schedule made from a seed.
 -- Assumes nothing: these are definitions.
 use Prim.Native.Nat.{ℕ, zero, suc, _+_, _-_, _*_, _/_, _%_, _^_}
 use mathlib.Core.Bool.{Bool, _&&_, cond}

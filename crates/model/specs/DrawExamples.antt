@@ -1,4 +1,4 @@
--- Draws and drawn loads at given inputs: the published beginning of the sequence, table A entry by entry, ranks among eight, sites that get stuck, and
+-- Draws and drawn schedules at given inputs: the published beginning of the sequence, table A entry by entry, ranks among eight, sites that get stuck, and
 -- the refusals. `proofs/DrawExamples.antt` computes them.
 -- Assumes nothing: these are definitions.
 use Prim.Native.Nat.{ℕ}
@@ -20,8 +20,8 @@ abbrev pub aloneThenBoth : List ℕ
 aloneThenBoth =
     two (receive ∷ waitAny ∷ sets 0 1 ∷ sets 0 2 ∷ sets 0 3 ∷ []) (sets 0 5 ∷ send ∷ sets 1 1 ∷ sets 1 2 ∷ sets 1 3 ∷ [])
 
-abbrev pub loads : List Claim
-loads =
+abbrev pub draws : List Claim
+draws =
     -- the sequence from 0, as it is published; and the largest x
     nextX 0 ⇒ holds 0x3C6EF35F
     ∷ nextX 0x3C6EF35F ⇒ holds 0x47502932

@@ -1,4 +1,4 @@
--- The load that a seed determines (document 02, W4): what is proved of it, in `proofs/Drawn.antt`, for every table that the reader accepts.
+-- The schedule that a seed determines (document 02, W4): what is proved of it, in `proofs/Drawn.antt`.
 -- Assumes nothing: these are definitions.
 use Prim.Native.Nat.{ℕ, _≤_}
 use mathlib.Core.Path.{_≡_}
@@ -12,7 +12,7 @@ use Rattle.model.specs.Step.{ready, step}
 use Rattle.model.specs.Ready.{howMany, readyCount}
 use Rattle.model.specs.Calls.{gives}
 use Rattle.model.specs.Scheduler.{scheduleRoom}
-use Rattle.model.specs.Scheduled.{Scheduled}
+use Rattle.model.specs.Scheduled.{Scheduled, Told}
 use Rattle.model.specs.Draw.{draw, rankBy, drawing, drawnFrom, drawOf}
 
 module _ (table : List ℕ) where
@@ -36,10 +36,15 @@ pub record Drawn (table : List ℕ) : Type 0 where
 abbrev pub EveryDraw : Type 0
 EveryDraw = (table : List ℕ) → readOf table ≡ accepted → Drawn table
 
--- two technicians with one table and one seed, each with a buffer of enough room: the same answer, and the same entries whatever the buffers held
-pub record OneLoad (table : List ℕ) (seed : ℕ) (mine yours : List ℕ) : Type 0 where
-  pub answers : drawOf table seed mine .result ≡ drawOf table seed yours .result
-  pub entries : (n : ℕ) → drawOf table seed mine .result ≡ gives n → take n (drawOf table seed mine .lent) ≡ take n (drawOf table seed yours .lent)
+-- of every table, one that the reader refuses too: where the call answers n, the first n lent entries are the drawn schedule
+abbrev pub DrawTold : Type 0
+DrawTold = (table : List ℕ) (seed : ℕ) (buffer : List ℕ) (n : ℕ) → drawOf table seed buffer .result ≡ gives n
+    → Told table (drawnFrom table seed) (drawOf table seed buffer) n
 
-abbrev pub TwoTechnicians : Type 0
-TwoTechnicians = (table : List ℕ) (seed : ℕ) (mine yours : List ℕ) → scheduleRoom ≤ length mine → scheduleRoom ≤ length yours → OneLoad table seed mine yours
+-- one table, one seed, and two buffers of enough room: the same answer, and the same entries whatever the buffers held
+pub record DrawnAlike (table : List ℕ) (seed : ℕ) (buffer other : List ℕ) : Type 0 where
+  pub answers : drawOf table seed buffer .result ≡ drawOf table seed other .result
+  pub entries : (n : ℕ) → drawOf table seed buffer .result ≡ gives n → take n (drawOf table seed buffer .lent) ≡ take n (drawOf table seed other .lent)
+
+abbrev pub EqualDraws : Type 0
+EqualDraws = (table : List ℕ) (seed : ℕ) (buffer other : List ℕ) → scheduleRoom ≤ length buffer → scheduleRoom ≤ length other → DrawnAlike table seed buffer other

@@ -29,8 +29,8 @@ fleetFirst = 1 ∷ 1 ∷ 0 ∷ 0 ∷ 2 ∷ 2 ∷ []
 abbrev pub anotherOrder : List ℕ
 anotherOrder = 2 ∷ 1 ∷ 0 ∷ 0 ∷ 1 ∷ 2 ∷ []
 
-abbrev pub receipts : List Claim
-receipts =
+abbrev pub orders : List Claim
+orders =
     -- the price in the pump's cell 0
     cell forecourt loyaltyFirst 2 0 ⇒ holds 145
     ∷ cell forecourt fleetFirst 2 0 ⇒ holds 139

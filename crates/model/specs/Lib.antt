@@ -1,7 +1,7 @@
 -- Document 01 as definitions, in its order, with the requests of document 02: the state, an action's views, stepping, the ready answer, the pair
 -- verdict, the state report, and the outcome of each call for every input. Then what is proved of them: the cases of the pair verdict, demand 3, what
 -- holds of every reached state, that a report determines its state, depths, the journal, the page's shape, totals that run over, two recordings of one run,
--- what the number of pairs compared tells, and the load that a seed determines.
+-- what the number of pairs compared tells, and the schedule that a seed determines.
 pub mod Site
 pub mod Views
 pub mod Mutex
@@ -15,7 +15,6 @@ pub mod Report
 pub mod Schedule
 pub mod Calls
 pub mod Recordings
-pub mod Comparison
 pub mod Scheduler
 pub mod Draw
 pub mod Route

@@ -19,10 +19,10 @@ carried unposted = 0
 carried (pending value) = value
 carried (done partner value) = value
 
--- the value of a pair, of which a step on this side posts `mine` and its partner has kept `theirs`: it is the Send's
+-- the value of a pair, of which a step on this side posts `posted` and its partner has kept `kept`: it is the Send's
 abbrev pub pairValue : Side → ℕ → ℕ → ℕ
-pairValue sends mine theirs = mine
-pairValue receives mine theirs = theirs
+pairValue sends posted kept = posted
+pairValue receives posted kept = kept
 
 abbrev pub atEnd : List Name → Name → List Name
 atEnd l x = l ++ (x ∷ [])

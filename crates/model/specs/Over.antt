@@ -15,10 +15,10 @@ use Rattle.trace.specs.Chain.{Chain, replay}
 use Rattle.trace.specs.Order.{has}
 use Rattle.model.specs.Site.{initial}
 use Rattle.model.specs.Step.{nextName, nextAction}
-use Rattle.model.specs.Ready.{ReadyAnswer}
+use Rattle.model.specs.Ready.{stuck, ReadyAnswer}
 use Rattle.model.specs.ReadyMask.{bitOf}
 use Rattle.model.specs.Schedule.{machine, endState, RefusalNumbers, checkSchedule}
-use Rattle.model.specs.Calls.{gives, refuses, runOf, readyOf, sameOf}
+use Rattle.model.specs.Calls.{gives, refuses, runOf, readyOf, comparisonOf}
 use Rattle.model.specs.Page.{over, statusOf, pageOf}
 use Rattle.model.specs.Determined.{Bytes}
 use Rattle.model.specs.Demand3.{Accepted}
@@ -32,19 +32,26 @@ module _ (table : List ℕ) where
   abbrev pub OverAfter : List ℕ → ℕ → Type 0
   OverAfter p a = readyOf table (p ++ (a ∷ [])) ≡ refuses 21 (length p)
 
-  -- an actor of the table is not finished, and its next action is an Add whose sum would pass 4,294,967,295
+  -- an actor of the table is not finished
+  abbrev pub Unfinished : List ℕ → ℕ → Type 0
+  Unfinished p a = (a < actorsOf table) × (endState table p .actor a .position < countOf table a)
+
+  -- and its next action is an Add whose sum would pass 4,294,967,295
   abbrev pub WouldPass : List ℕ → ℕ → Type 0
   WouldPass p a =
-      (cell : ℕ) × (other : ℕ) × (a < actorsOf table) × (endState table p .actor a .position < countOf table a)
-      × (nextAction table (endState table p) a ≡ Add cell other) × (4294967295 < getD (cellsAt p a) cell 0 + getD (cellsAt p a) other 0)
+      (cell : ℕ) × (other : ℕ) × Unfinished p a × (nextAction table (endState table p) a ≡ Add cell other) × (4294967295 < getD (cellsAt p a) cell 0 + getD (cellsAt p a) other 0)
+
+-- an actor that is over, as the calls show it: "its bit in the mask is 0, the page shows `over`"
+pub record ShownOver (table p : List ℕ) (a : ℕ) (now : ReadyAnswer) : Type 0 where
+  pub bit-zero : bitOf (now .mask) a ≡ 0
+  pub status : statusOf table (endState table p) a ≡ over
 
 -- an actor is over, with the same action next, after more steps as it was before them
 pub record StillOver (table p more : List ℕ) (a : ℕ) (later : ReadyAnswer) : Type 0 where
   -- none of the steps is its own
   pub others : has more a ≡ false
   pub over-still : OverAfter table (p ++ more) a
-  pub bit-zero : bitOf (later .mask) a ≡ 0
-  pub status : statusOf table (endState table (p ++ more)) a ≡ over
+  pub shown-still : ShownOver table (p ++ more) a later
   pub same-name : nextName table (endState table (p ++ more)) a ≡ nextName table (endState table p) a
   pub same-action : nextAction table (endState table (p ++ more)) a ≡ nextAction table (endState table p) a
 
@@ -68,7 +75,11 @@ pub record Over (table : List ℕ) : Type 0 where
   pub exactly : (p : List ℕ) (a : ℕ) → Accepted table p → OverAfter table p a ↔ WouldPass table p a
   -- and so is 22, of the second of two schedules
   pub exactly-second : (first p : List ℕ) (a : ℕ) → Accepted table first → Accepted table p
-      → (sameOf table first (p ++ (a ∷ [])) ≡ refuses 22 (length p)) ↔ WouldPass table p a
+      → (comparisonOf table first (p ++ (a ∷ [])) ≡ refuses 22 (length p)) ↔ WouldPass table p a
+  pub shown : (p : List ℕ) (a : ℕ) (now : ReadyAnswer) → OverAfter table p a → readyOf table p ≡ gives now → ShownOver table p a now
+  -- "a site with only such steps left is stuck": somebody is not finished, and everybody who is not finished is over
+  pub only-over : (p : List ℕ) (u : ℕ) → Accepted table p → Unfinished table p u → ((a : ℕ) → Unfinished table p a → OverAfter table p a)
+      → readyOf table p ≡ gives (record { mask = 0; count = 0; ending = stuck })
   -- "never becomes so": no schedule that goes on from there steps that actor, and after each of them it is over still
   pub never-ready : (p more : List ℕ) (a : ℕ) (later : ReadyAnswer) → OverAfter table p a → readyOf table (p ++ more) ≡ gives later
       → StillOver table p more a later

@@ -8,7 +8,7 @@ use mathlib.Core.Bool.{Bool, true, false}
 use mathlib.Core.List.{List, [], _∷_, map}
 use lib.ListN.{replicate}
 use Rattle.table.specs.Format.{actorsOf, countOf}
-use Rattle.table.specs.Promise.{isPost}
+use Rattle.table.specs.Promise.{isCommunication}
 use Rattle.trace.specs.Machine.{Name}
 use Rattle.trace.specs.Order.{mem, Distinct, has}
 use Rattle.model.specs.Site.{receives, Port, opposite, Comm, unposted, pending, done, Mail, Entry, Queued, Site}
@@ -73,7 +73,7 @@ pub record Reached (table : List ℕ) (s : Site) : Type 0 where
   pub absent-cells : (a : ℕ) → actorsOf table ≤ a → s .actor a .cells ≡ replicate 8 0
   -- each Send or Receive below the position is pending or done, and every other action is unposted
   pub posted-below : (x : Name)
-      → (isPosted (s .mail .comm x) ≡ true) ↔ ((isPost (actionAt table x) ≡ true) × (x .position < s .actor (x .actor) .position))
+      → (isPosted (s .mail .comm x) ≡ true) ↔ ((isCommunication (actionAt table x) ≡ true) × (x .position < s .actor (x .actor) .position))
   -- the communications and the mailboxes are right, each action posting what the table says
   pub mail : MailRight (λ x. posts (actionAt table x)) (s .mail)
   -- a mutex's queue names an actor at most once, with a depth from 1 to the number of its Locks of that mutex below its position

@@ -6,7 +6,7 @@ use mathlib.Core.List.{List, [], _∷_}
 use lib.ListN.{replicate, take}
 use Rattle.model.specs.Calls.{gives, refuses, same, different}
 use Rattle.model.specs.Recordings.{theFirst, theSecond, Part, Slice}
-use Rattle.model.specs.Claims.{Claim, _⇒_, areSame, prefix, remains, remainder, judged, left, handed}
+use Rattle.model.specs.Claims.{Claim, _⇒_, areSame, prefix, remains, remainder, judged, part, handed}
 use Rattle.model.specs.Cases.{tableA}
 use Rattle.model.specs.Examples.{sets, two}
 use Rattle.model.specs.OverExamples.{double}
@@ -53,12 +53,12 @@ recordings =
     ∷ prefix tableA (replicate 256 2) [] ⇒ judged (gives same)
     ∷ prefix (take 43 tableA) (2 ∷ []) [] ⇒ judged (refuses 5 0)
     -- remainders by lengths alone
-    ∷ remains 4 3 ⇒ left (ofFirst 3 1)
-    ∷ remains 3 4 ⇒ left (ofSecond 3 1)
-    ∷ remains 4 4 ⇒ left (ofFirst 4 0)
-    ∷ remains 0 0 ⇒ left (ofFirst 0 0)
-    ∷ remains 256 0 ⇒ left (ofFirst 0 256)
-    ∷ remains 0 256 ⇒ left (ofSecond 0 256)
+    ∷ remains 4 3 ⇒ part (ofFirst 3 1)
+    ∷ remains 3 4 ⇒ part (ofSecond 3 1)
+    ∷ remains 4 4 ⇒ part (ofFirst 4 0)
+    ∷ remains 0 0 ⇒ part (ofFirst 0 0)
+    ∷ remains 256 0 ⇒ part (ofFirst 0 256)
+    ∷ remains 0 256 ⇒ part (ofSecond 0 256)
     -- and where the caller's bytes stand: of the first, of the second, the empty end of the first
     ∷ remainder (slice 1 40 (0 ∷ 0 ∷ 1 ∷ 7 ∷ [])) (slice 2 8 (1 ∷ 0 ∷ 0 ∷ [])) ⇒ handed (slice 1 43 (7 ∷ []))
     ∷ remainder (slice 1 40 (0 ∷ [])) (slice 2 8 (1 ∷ 8 ∷ 9 ∷ [])) ⇒ handed (slice 2 9 (8 ∷ 9 ∷ []))

@@ -1,7 +1,7 @@
--- What holds of two recordings (document 02, W3), of every table that the reader accepts: what the verdict on them looks at and what it says; that
--- it is the same either way round; and that the longer goes on from the shorter one's end. `proofs/RecordingLaws.antt` proves it.
+-- What holds of two recordings (document 02, W3): where the remainder stands; what the verdict on them looks at and what it says; that it is the same
+-- either way round; and that the longer goes on from the shorter one's end. `proofs/RecordingLaws.antt` proves it.
 -- Assumes nothing: these are definitions.
-use Prim.Native.Nat.{ℕ}
+use Prim.Native.Nat.{ℕ, _+_}
 use mathlib.Core.Path.{_≡_}
 use mathlib.Core.Logic.{_↔_}
 use mathlib.Core.List.{List, _++_}
@@ -12,25 +12,36 @@ use Rattle.trace.specs.Schedule.{accepted as all-taken, final}
 use Rattle.trace.specs.Chain.{Chained}
 use Rattle.model.specs.Site.{initial}
 use Rattle.model.specs.Schedule.{machine, endState, RefusalNumbers, checkFrom, checkSchedule}
-use Rattle.model.specs.Calls.{gives, runOf, readyOf, SameVerdict, same, different, sameOf}
+use Rattle.model.specs.Calls.{runOf, readyOf, SameVerdict, same, different, comparisonOf}
 use Rattle.model.specs.Page.{pageOf}
-use Rattle.model.specs.Demand3.{Accepted}
-use Rattle.model.specs.Recordings.{held, prefixOf, choose, Part, remainderOf, Slice, remainderIn}
+use Rattle.model.specs.Demand3.{Accepted, Says}
+use Rattle.model.specs.Recordings.{held, prefixComparisonOf, choose, Part, remainderOf, Slice, remainderIn}
 
 -- ---- the longer and the shorter of two recordings; with equal lengths the first counts as the longer
 
 module _ (p q : List ℕ) where
-  abbrev pub left : Part
-  left = remainderOf (length p) (length q)
+  abbrev pub remainderPart : Part
+  remainderPart = remainderOf (length p) (length q)
 
   abbrev pub longer : List ℕ
-  longer = choose (left .recording) p q
+  longer = choose (remainderPart .recording) p q
 
   abbrev pub shorter : List ℕ
-  shorter = choose (left .recording) q p
+  shorter = choose (remainderPart .recording) q p
 
   abbrev pub remainder : List ℕ
-  remainder = take (left .length) (drop (left .from) longer)
+  remainder = take (remainderPart .length) (drop (remainderPart .from) longer)
+
+-- the same of two recordings as they stand in the caller's memory
+abbrev pub longerSlice : (a b : Slice) → Slice
+longerSlice a b = choose (remainderPart (a .bytes) (b .bytes) .recording) a b
+
+-- what the call remainder hands back: the remainder, and it stands in the longer recording, right after as many bytes as the shorter has
+pub record Handed (a b : Slice) : Type 0 where
+  pub bytes : remainderIn a b .bytes ≡ remainder (a .bytes) (b .bytes)
+  pub block : remainderIn a b .block ≡ longerSlice a b .block
+  pub offset : remainderIn a b .offset ≡ longerSlice a b .offset + length (shorter (a .bytes) (b .bytes))
+  pub longer-bytes : longerSlice a b .bytes ≡ longer (a .bytes) (b .bytes)
 
 -- a longer recording is made up of what is held of it and the remainder, which begins at the shorter's length; the shorter is held whole
 pub record Split (shorter longer remainder : List ℕ) (from count : ℕ) : Type 0 where
@@ -51,29 +62,30 @@ pub record Continues (table shorter longer remainder : List ℕ) : Type 0 where
   pub runs : (buffer : List ℕ) → runOf table longer buffer ≡ runOf table (shorter ++ remainder) buffer
   pub pages : (buffer : List ℕ) → pageOf table longer buffer ≡ pageOf table (shorter ++ remainder) buffer
 
+-- of a table that the reader accepts
 pub record Recordings (table : List ℕ) : Type 0 where
-  -- of any two recordings: the remainder is what the call hands back, wherever they stand, and completes what is held
-  pub handed : (a b : Slice) → remainderIn a b .bytes ≡ remainder (a .bytes) (b .bytes)
-  pub split : (p q : List ℕ) → Split (shorter p q) (longer p q) (remainder p q) (left p q .from) (left p q .length)
-  -- with equal lengths the verdict is that of the call same
-  pub equal-lengths : (p q : List ℕ) → length p ≡ length q → prefixOf table p q ≡ sameOf table p q
-  -- whatever follows the parts, the answer is theirs
-  pub unseen : (p q more : List ℕ) → length p ≡ length q
-      → (prefixOf table (p ++ more) q ≡ sameOf table p q) × (prefixOf table p (q ++ more) ≡ sameOf table p q)
   -- same is said exactly where both parts are accepted and a chain leads from the one to the other, different where both are accepted and none does
   pub called-same : (p q : List ℕ)
-      → (prefixOf table p q ≡ gives same)
+      → Says (prefixComparisonOf table p q) same
       ↔ (Accepted table (held p q) × Accepted table (held q p) × Chained (machine table) initial (held p q) (held q p))
   pub called-different : (p q : List ℕ)
-      → (prefixOf table p q ≡ gives different)
+      → Says (prefixComparisonOf table p q) different
       ↔ (Accepted table (held p q) × Accepted table (held q p) × (¬ Chained (machine table) initial (held p q) (held q p)))
   -- recordings that are accepted whole get a verdict
-  pub accepted-judged : (p q : List ℕ) → Accepted table p → Accepted table q → (v : SameVerdict) × (prefixOf table p q ≡ gives v)
+  pub accepted-judged : (p q : List ℕ) → Accepted table p → Accepted table q → (v : SameVerdict) × Says (prefixComparisonOf table p q) v
   -- the verdict is the same either way round, and so is that of the call same
-  pub either-way : (p q : List ℕ) (v : SameVerdict) → prefixOf table p q ≡ gives v → prefixOf table q p ≡ gives v
-  pub same-either-way : (p q : List ℕ) (v : SameVerdict) → sameOf table p q ≡ gives v → sameOf table q p ≡ gives v
+  pub either-way : (p q : List ℕ) (v : SameVerdict) → Says (prefixComparisonOf table p q) v → Says (prefixComparisonOf table q p) v
+  pub same-either-way : (p q : List ℕ) (v : SameVerdict) → Says (comparisonOf table p q) v → Says (comparisonOf table q p) v
   -- where the parts are the same
-  pub continues : (p q : List ℕ) → prefixOf table p q ≡ gives same → Continues table (shorter p q) (longer p q) (remainder p q)
+  pub continues : (p q : List ℕ) → Says (prefixComparisonOf table p q) same → Continues table (shorter p q) (longer p q) (remainder p q)
 
-abbrev pub EveryRecording : Type 0
-EveryRecording = (table : List ℕ) → readOf table ≡ accepted → Recordings table
+pub record EveryRecording : Type 0 where
+  -- of any two recordings: the remainder is what the call hands back, wherever they stand, and completes what is held
+  pub handed : (a b : Slice) → Handed a b
+  pub split : (p q : List ℕ) → Split (shorter p q) (longer p q) (remainder p q) (remainderPart p q .from) (remainderPart p q .length)
+  -- of any table, one that the reader refuses too: with equal lengths the answer is that of the call same
+  pub equal-lengths : (table p q : List ℕ) → length p ≡ length q → prefixComparisonOf table p q ≡ comparisonOf table p q
+  -- and whatever follows the parts, it is theirs
+  pub unseen : (table p q more : List ℕ) → length p ≡ length q
+      → (prefixComparisonOf table (p ++ more) q ≡ comparisonOf table p q) × (prefixComparisonOf table p (q ++ more) ≡ comparisonOf table p q)
+  pub accepted-table : (table : List ℕ) → readOf table ≡ accepted → Recordings table

@@ -7,7 +7,7 @@ use mathlib.Core.List.{List}
 use lib.Dec.{ltb}
 use lib.ListN.{length, take, drop}
 use denote.Ref.{RefT, ptr, now}
-use Rattle.model.specs.Calls.{Result, SameVerdict, sameOf}
+use Rattle.model.specs.Calls.{Result, Comparison, comparisonOf}
 
 -- ---- the verdict
 
@@ -15,9 +15,10 @@ use Rattle.model.specs.Calls.{Result, SameVerdict, sameOf}
 abbrev pub held : (recording other : List ℕ) → List ℕ
 held recording other = take (length other) recording
 
--- "the same verdict is given on those parts", with its refusals, in its order; what follows the parts is not stepped
-unfoldable pub prefixOf : (table first second : List ℕ) → Result SameVerdict
-prefixOf table first second = sameOf table (held first second) (held second first)
+-- "the same verdict is given on those parts", with its refusals, in its order, and the number of pairs compared of them (W6: "on shortened recordings
+-- too"); what follows the parts is not stepped
+unfoldable pub prefixComparisonOf : (table first second : List ℕ) → Result Comparison
+prefixComparisonOf table first second = comparisonOf table (held first second) (held second first)
 
 -- ---- the remainder
 

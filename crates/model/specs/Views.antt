@@ -76,14 +76,14 @@ abbrev pub receiving : ℕ → Post
 receiving mailbox = mails (record { mailbox = mailbox; side = receives })
 
 -- what a cell holds
-abbrev pub held : (cell : ℕ) (cells : List ℕ) → ℕ
-held cell cells = getD cells cell 0
+abbrev pub inCell : (cell : ℕ) (cells : List ℕ) → ℕ
+inCell cell cells = getD cells cell 0
 
 abbrev pub viewOf : Action → View
 viewOf (Set cell value) = computing cell (λ cells. value)
-viewOf (Add cell other) = adding cell (λ cells. held cell cells + held other cells)
-viewOf (Lesser cell other) = computing cell (λ cells. min (held cell cells) (held other cells))
-viewOf (Send mailbox cell) = posting (sending mailbox) (held cell) keeps
+viewOf (Add cell other) = adding cell (λ cells. inCell cell cells + inCell other cells)
+viewOf (Lesser cell other) = computing cell (λ cells. min (inCell cell cells) (inCell other cells))
+viewOf (Send mailbox cell) = posting (sending mailbox) (inCell cell) keeps
 viewOf (Receive mailbox cell) = posting (receiving mailbox) (λ cells. 0) (puts cell (λ value cells. value))
 viewOf (TestAny result list) = looking result (communications (listed list)) false
 viewOf (WaitAny result list) = looking result (communications (listed list)) true
@@ -91,7 +91,7 @@ viewOf (Lock mutex) = posting (joins mutex) (λ cells. 0) keeps
 viewOf (Unlock mutex) = posting (leaves mutex) (λ cells. 0) keeps
 viewOf (MutexTest result list) = looking result (mutexes (listed list)) false
 viewOf (MutexWait result list) = looking result (mutexes (listed list)) true
-viewOf (Note cell) = posting notes (held cell) keeps
+viewOf (Note cell) = posting notes (inCell cell) keeps
 
 abbrev pub posts : Action → Post
 posts x = viewOf x .post

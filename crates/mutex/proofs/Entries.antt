@@ -60,7 +60,7 @@ join-deeper (b ∷ l) a h = go (which (eqb a (b % 8))) (join-deeper l a)
     go : (eqb a (b % 8) ≡ true) ⊎ (eqb a (b % 8) ≡ false) → (placeOf l a < length l → join (queueOf l) a ≡ queueOf (set l (placeOf l a) (found l a + 8)))
         → join (queueOf (b ∷ l)) a ≡ queueOf (set (b ∷ l) (placeOf (b ∷ l) a) (found (b ∷ l) a + 8))
     go (inl e) rest =
-        let mine : a ≡ b % 8 = eqb-true a (b % 8) e in
+        let same-actor : a ≡ b % 8 = eqb-true a (b % 8) e in
         rw e (ap {B = List Queued} (λ x. x ∷ queueOf l) (entry a (b + 8) (suc (b / 8 + 1)) (omega arith) (omega arith)))
     go (inr e) rest =
         let further : suc (placeOf l a) < length (b ∷ l) = rw e at h in
@@ -79,7 +79,7 @@ leave-shallower (b ∷ l) a h deep = go (which (eqb a (b % 8))) (leave-shallower
         → (placeOf l a < length l → 8 ≤ found l a → leave (queueOf l) a ≡ queueOf (set l (placeOf l a) (found l a - 8)))
         → leave (queueOf (b ∷ l)) a ≡ queueOf (set (b ∷ l) (placeOf (b ∷ l) a) (found (b ∷ l) a - 8))
     go (inl e) rest =
-        let mine : a ≡ b % 8 = eqb-true a (b % 8) e in
+        let same-actor : a ≡ b % 8 = eqb-true a (b % 8) e in
         let more : 8 ≤ b = rw e at deep in
         rw e
         (one-less (b / 8 + 1 - 1) (omega arith) (queueOf l)

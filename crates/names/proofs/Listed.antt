@@ -9,7 +9,7 @@ use mathlib.Core.List.{List, [], _∷_}
 use lib.Dec.{eqb}
 use lib.ListN.{length, getD, take}
 use Rattle.table.specs.declared.Numbers.{Numbers}
-use Rattle.table.specs.Promise.{Listing, LowerPost, number}
+use Rattle.table.specs.Promise.{Listing, LowerCommunication, number}
 use Rattle.trace.specs.Machine.{Name}
 use Rattle.trace.specs.Order.{has}
 use Rattle.model.specs.Site.{name}
@@ -51,8 +51,8 @@ has-any (n ∷ l) m = ap (λ (b : Bool). eqb m n || b) (has-any l m)
 
 module _ (table : List ℕ) (x : Name) (s : Stands table x) where
   -- an action that a step lists stands before the step, so the table has it
-  listed-stands : (j : ℕ) → LowerPost table (x .actor) (x .position) j → Stands table (name (x .actor) j)
+  listed-stands : (j : ℕ) → LowerCommunication table (x .actor) (x .position) j → Stands table (name (x .actor) j)
   listed-stands j h = (s .0, omega (arith, s .1, h .0))
 
-  pub listed-standing : (l : Numbers) → Listing (LowerPost table (x .actor) (x .position)) l → Each (λ j. Stands table (name (x .actor) j)) (listed l)
-  listed-standing l h = each-map listed-stands (listed l) (each-listed (LowerPost table (x .actor) (x .position)) l h)
+  pub listed-standing : (l : Numbers) → Listing (LowerCommunication table (x .actor) (x .position)) l → Each (λ j. Stands table (name (x .actor) j)) (listed l)
+  listed-standing l h = each-map listed-stands (listed l) (each-listed (LowerCommunication table (x .actor) (x .position)) l h)

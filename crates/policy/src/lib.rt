@@ -7,7 +7,7 @@ ghost use Rattle.model.specs.Ready.{maskOf};
 ghost use Rattle.model.specs.Draw.{draw as modelDraw, ranked as modelRanked, drawing};
 ghost use Rattle.policy.specs.Parts.{ruleOf, keptOf, TurnRight};
 
-// A way to choose, with what it keeps from turn to turn: the drawn load keeps its x.
+// A way to choose, with what it keeps from turn to turn: the draw keeps its x.
 pub struct Policy {
     x: u32,
 }
@@ -19,7 +19,7 @@ pub struct Turn {
 }
 
 impl Policy {
-    // The drawn load of a seed.
+    // The drawn schedule of a seed.
     pub fn drawn(seed: u32) -> Self
         ensures { λ p. ⌜ (ruleOf p ≡ drawing) × (keptOf p ≡ seed) ⌝ }
     {

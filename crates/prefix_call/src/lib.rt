@@ -1,6 +1,6 @@
 // The verdict on two recordings: the longer is held to the length of the shorter, and the rest of it is not looked at.
 ghost use mathlib.Core.Path.{_≡_};
-ghost use Rattle.model.specs.Comparison.{prefixComparisonOf};
+ghost use Rattle.model.specs.Recordings.{prefixComparisonOf};
 ghost use Rattle.answers.specs.Answers.{sameResult};
 use answers::SameAnswer;
 

@@ -1,6 +1,6 @@
 // The same call: the table and both schedules, then the verdict on them.
 ghost use mathlib.Core.Path.{_≡_};
-ghost use Rattle.model.specs.Comparison.{comparisonOf};
+ghost use Rattle.model.specs.Calls.{comparisonOf};
 ghost use Rattle.answers.specs.Answers.{sameResult};
 use answers::SameAnswer;
 

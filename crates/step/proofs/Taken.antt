@@ -11,7 +11,7 @@ use Rattle.table.specs.declared.Action.the-variants.{Note}
 use Rattle.table.specs.declared.Numbers.{Numbers}
 use Rattle.table.specs.Format.{countOf}
 use Rattle.table.specs.Decode.{actionOf}
-use Rattle.table.specs.Promise.{InRange, Listing, LowerPost, number}
+use Rattle.table.specs.Promise.{InRange, Listing, LowerCommunication, number}
 use Rattle.trace.specs.Machine.{Name}
 use Rattle.model.specs.Site.{Mail, Entry, Port, name}
 use Rattle.model.specs.Views.{Post, silent, mails, posts, looks, sent, listed}
@@ -55,10 +55,10 @@ module _ {table : List ℕ} {a : ℕ} {r : Actor} {comms log ends queues journal
   actor-small = omega (arith, S .accepted .actors-most, S .actor)
 
   -- a listed action lies below 32, and what a look finds of a list can be picked up
-  pub listed-small : (l : Numbers) → Listing (LowerPost table a (r .position)) l → (i : ℕ) → i < l .count → number l i < 32
+  pub listed-small : (l : Numbers) → Listing (LowerCommunication table a (r .position)) l → (i : ℕ) → i < l .count → number l i < 32
   listed-small l L i h = omega (arith, L .right i h .0, position-small)
 
-  pub pickable : (test : ℕ → Bool) (value : ℕ → ℕ) (l : Numbers) → Listing (LowerPost table a (r .position)) l → Picks table a (first test value 1 (listed l))
+  pub pickable : (test : ℕ → Bool) (value : ℕ → ℕ) (l : Numbers) → Listing (LowerCommunication table a (r .position)) l → Picks table a (first test value 1 (listed l))
   pickable test value l L =
       has-picks table a (first test value 1 (listed l))
       (listed-has test value (λ place n. n < countOf table a) l (L .most) (λ i h. omega (arith, L .right i h .0, S .unfinished)))

@@ -14,8 +14,8 @@ use Rattle.table.specs.Outcome.{Outcome, accepted, demand, _⨾_, each}
 use Rattle.table.specs.Format.{editionOf, actorsOf, mailboxesOf, mutexesOf, offsetOf, countOf, dueOf, placeOf, kindAt, pAt, qAt, zAt, listedAt}
 use Rattle.table.specs.Kinds.{Form, formOf, lastKind, actions, mutexes, mutex}
 use Rattle.table.specs.Decode.{numbersAt, decodeAs, actionOf}
-use Rattle.table.specs.Read.{headerOf, directoryOf, endOf, actionsOf, actorOf, checkOf, entryOf, readOf, fieldsOf, fits, listFits, listAllowed, clear, restClear, allowed, postKind}
-use Rattle.table.specs.Promise.{number, Listing, isPost, LowerPost, InRange, WellFormed}
+use Rattle.table.specs.Read.{headerOf, directoryOf, endOf, actionsOf, actorOf, checkOf, entryOf, readOf, fieldsOf, fits, listFits, listAllowed, clear, restClear, allowed, communicationKind}
+use Rattle.table.specs.Promise.{number, Listing, isCommunication, LowerCommunication, InRange, WellFormed}
 use Rattle.table.proofs.Checks.{which, then-left, then-right, demand-true, and-left, and-right, each-at}
 use Rattle.table.proofs.Placed.{count-most, inside}
 
@@ -28,11 +28,11 @@ number-at b at (suc (suc (suc zero))) h = refl
 number-at b at (suc (suc (suc (suc i)))) h = absurd (omega arith)
 
 -- an action of kind 3 or 4 is a Send or a Receive
-post-decoded : (b : List ℕ) (at kind : ℕ) → postKind kind ≡ true → isPost (decodeAs kind b at) ≡ true
+communication-decoded : (b : List ℕ) (at kind : ℕ) → communicationKind kind ≡ true → isCommunication (decodeAs kind b at) ≡ true
 unfolding decodeAs
-post-decoded b at kind h = go (which (eqb kind 3)) (which (eqb kind 4))
+communication-decoded b at kind h = go (which (eqb kind 3)) (which (eqb kind 4))
   where
-    go : (eqb kind 3 ≡ true) ⊎ (eqb kind 3 ≡ false) → (eqb kind 4 ≡ true) ⊎ (eqb kind 4 ≡ false) → isPost (decodeAs kind b at) ≡ true
+    go : (eqb kind 3 ≡ true) ⊎ (eqb kind 3 ≡ false) → (eqb kind 4 ≡ true) ⊎ (eqb kind 4 ≡ false) → isCommunication (decodeAs kind b at) ≡ true
     go (inl e) f = rw (eqb-true kind 3 e)
     go (inr e) (inl f) = rw (eqb-true kind 4 f)
     go (inr e) (inr f) = let z : false ≡ true = simp (e, f) at h in cc
@@ -77,16 +77,16 @@ module _ (b : List ℕ) (actor k : ℕ) where
         right = λ i h. subst P (sym (number-at b at i (omega arith))) (each-right i h);
       }
 
-  lower-posts : listFits b at actions ≡ accepted → listAllowed b first k actions ≡ accepted → Listing (LowerPost b actor k) (numbersAt b at)
-  lower-posts z listed = listing (LowerPost b actor k) (demand-true _ 7 at z) lower
+  lower-communications : listFits b at actions ≡ accepted → listAllowed b first k actions ≡ accepted → Listing (LowerCommunication b actor k) (numbersAt b at)
+  lower-communications z listed = listing (LowerCommunication b actor k) (demand-true _ 7 at z) lower
     where
-      lower : (i : ℕ) → i < zAt b at → LowerPost b actor k (listedAt b at i)
+      lower : (i : ℕ) → i < zAt b at → LowerCommunication b actor k (listedAt b at i)
       lower i h =
           let x : ℕ = listedAt b at i in
           let ok : allowed b first k x ≡ true =
           demand-true _ 8 at (rw zero-add at (each-at (λ j. demand (allowed b first k (listedAt b at j)) 8 at) (zAt b at) 0 listed i h)) in (
-            ltb-true _ _ (and-left (ltb x k) (postKind (kindAt b (placeOf first x))) ok),
-            post-decoded b (placeOf first x) (kindAt b (placeOf first x)) (and-right (ltb x k) (postKind (kindAt b (placeOf first x))) ok),
+            ltb-true _ _ (and-left (ltb x k) (communicationKind (kindAt b (placeOf first x))) ok),
+            communication-decoded b (placeOf first x) (kindAt b (placeOf first x)) (and-right (ltb x k) (communicationKind (kindAt b (placeOf first x))) ok),
           )
 
   all-mutexes : listFits b at mutexes ≡ accepted → Listing (λ m. m < mutexesOf b) (numbersAt b at)
@@ -110,9 +110,9 @@ module _ (b : List ℕ) (actor k : ℕ) where
   kind-range (suc (suc (suc zero))) h r = (ltb-true _ _ (p-fits (formOf 3) r), ltb-true _ _ (q-fits (formOf 3) r))
   kind-range (suc (suc (suc (suc zero)))) h r = (ltb-true _ _ (p-fits (formOf 4) r), ltb-true _ _ (q-fits (formOf 4) r))
   kind-range (suc (suc (suc (suc (suc zero))))) h r =
-      (ltb-true _ _ (p-fits (formOf 5) r), lower-posts (list-fits (formOf 5) r) (list-allowed (formOf 5) r))
+      (ltb-true _ _ (p-fits (formOf 5) r), lower-communications (list-fits (formOf 5) r) (list-allowed (formOf 5) r))
   kind-range (suc (suc (suc (suc (suc (suc zero)))))) h r =
-      (ltb-true _ _ (p-fits (formOf 6) r), lower-posts (list-fits (formOf 6) r) (list-allowed (formOf 6) r))
+      (ltb-true _ _ (p-fits (formOf 6) r), lower-communications (list-fits (formOf 6) r) (list-allowed (formOf 6) r))
   kind-range (suc (suc (suc (suc (suc (suc (suc zero))))))) h r = ltb-true _ _ (p-fits (formOf 7) r)
   kind-range (suc (suc (suc (suc (suc (suc (suc (suc zero)))))))) h r = ltb-true _ _ (p-fits (formOf 8) r)
   kind-range (suc (suc (suc (suc (suc (suc (suc (suc (suc zero))))))))) h r =

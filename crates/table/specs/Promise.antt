@@ -22,23 +22,23 @@ pub record Listing (Right : ℕ → Type 0) (l : Numbers) : Type 0 where
   pub right : (i : ℕ) → i < l .count → Right (number l i)
 
 -- Send or Receive
-abbrev pub isPost : Action → Bool
-isPost (Set cell value) = false
-isPost (Add cell other) = false
-isPost (Lesser cell other) = false
-isPost (Send mailbox cell) = true
-isPost (Receive mailbox cell) = true
-isPost (TestAny result list) = false
-isPost (WaitAny result list) = false
-isPost (Lock mutex) = false
-isPost (Unlock mutex) = false
-isPost (MutexTest result list) = false
-isPost (MutexWait result list) = false
-isPost (Note cell) = false
+abbrev pub isCommunication : Action → Bool
+isCommunication (Set cell value) = false
+isCommunication (Add cell other) = false
+isCommunication (Lesser cell other) = false
+isCommunication (Send mailbox cell) = true
+isCommunication (Receive mailbox cell) = true
+isCommunication (TestAny result list) = false
+isCommunication (WaitAny result list) = false
+isCommunication (Lock mutex) = false
+isCommunication (Unlock mutex) = false
+isCommunication (MutexTest result list) = false
+isCommunication (MutexWait result list) = false
+isCommunication (Note cell) = false
 
 -- x is a lower Send or Receive of the same actor
-abbrev pub LowerPost : List ℕ → ℕ → ℕ → ℕ → Type 0
-LowerPost b actor k x = (x < k) × (isPost (actionOf b actor x) ≡ true)
+abbrev pub LowerCommunication : List ℕ → ℕ → ℕ → ℕ → Type 0
+LowerCommunication b actor k x = (x < k) × (isCommunication (actionOf b actor x) ≡ true)
 
 -- action k of an actor names only what the table has
 abbrev pub InRange : List ℕ → ℕ → ℕ → Action → Type 0
@@ -47,8 +47,8 @@ InRange b actor k (Add cell other) = (cell < 8) × (other < 8)
 InRange b actor k (Lesser cell other) = (cell < 8) × (other < 8)
 InRange b actor k (Send mailbox cell) = (mailbox < mailboxesOf b) × (cell < 8)
 InRange b actor k (Receive mailbox cell) = (mailbox < mailboxesOf b) × (cell < 8)
-InRange b actor k (TestAny result list) = (result < 8) × Listing (LowerPost b actor k) list
-InRange b actor k (WaitAny result list) = (result < 8) × Listing (LowerPost b actor k) list
+InRange b actor k (TestAny result list) = (result < 8) × Listing (LowerCommunication b actor k) list
+InRange b actor k (WaitAny result list) = (result < 8) × Listing (LowerCommunication b actor k) list
 InRange b actor k (Lock mutex) = mutex < mutexesOf b
 InRange b actor k (Unlock mutex) = mutex < mutexesOf b
 InRange b actor k (MutexTest result list) = (result < 8) × Listing (λ m. m < mutexesOf b) list

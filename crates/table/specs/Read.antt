@@ -46,11 +46,11 @@ listFits b at mutexes =
     ⨾ each (λ i. demand (fits b mutex (listedAt b at i)) 7 at) (zAt b at) 0
 
 -- 8: a listed action has to be lower and of kind Send or Receive; `first` is where the actor's actions begin, `k` the action's number
-abbrev pub postKind : ℕ → Bool
-postKind kind = eqb kind 3 || eqb kind 4
+abbrev pub communicationKind : ℕ → Bool
+communicationKind kind = eqb kind 3 || eqb kind 4
 
 abbrev pub allowed : List ℕ → ℕ → ℕ → ℕ → Bool
-allowed b first k x = ltb x k && postKind (kindAt b (placeOf first x))
+allowed b first k x = ltb x k && communicationKind (kindAt b (placeOf first x))
 
 abbrev pub listAllowed : List ℕ → ℕ → ℕ → Rest → Outcome
 listAllowed b first k nothing = accepted

@@ -12,12 +12,12 @@ use Rattle.listing.specs.Laid.{Laid}
 module _ (text : List ℕ) (r : Listing) (l : Laid text r) where
   pub shown : take (r .length) (r .bytes) ≡ text
   shown =
-      ap (λ (n : ℕ). take n (r .bytes)) (l .counted) ∙ ap (take (length text)) (l .held)
+      ap (λ (n : ℕ). take n (r .bytes)) (l .counted) ∙ ap (take (length text)) (l .laid)
       ∙ take-append-seam text (replicate (1293 - length text) 0)
 
   pub within : r .length ≤ length (r .bytes)
   within =
-      omega (arith, l .counted, ap length (l .held) ∙ length-append text (replicate (1293 - length text) 0))
+      omega (arith, l .counted, ap length (l .laid) ∙ length-append text (replicate (1293 - length text) 0))
 
 -- a part of so many bytes has so many
 pub part-count : (n : ℕ) (b : List ℕ) → n ≤ length b → n ≡ length (take n b)

@@ -3,7 +3,7 @@
 -- Assumes nothing.
 use borrow.Author.Needs.{needs}
 use Rattle.table.specs.Format.{placeOf}
-use Rattle.fields.specs.Parts.{allPosts}
+use Rattle.fields.specs.Parts.{allCommunications}
 use Rattle.fields.proofs.Tests.{said-no, said-yes}
 use Rattle.fields.proofs.Lists.{p-over, z-low, z-high, list-wrong, q-used, past-list}
 use Rattle.fields.proofs.any.Statement.{statement}
@@ -27,7 +27,7 @@ cast-t10 c = search needs
 returns : tie.Need-returns
 returns c =
     let a = c .before .before .before .args in
-    p-over (a .t .now) (placeOf (a .first) (a .k)) (allPosts (a .t .now) (a .first) (a .k)) (c .if1 .taken)
+    p-over (a .t .now) (placeOf (a .first) (a .k)) (allCommunications (a .t .now) (a .first) (a .k)) (c .if1 .taken)
 
 add-wide : tie.Need-add-wide
 add-wide c = search needs
@@ -45,7 +45,7 @@ returns-2 : tie.Need-returns-2
 returns-2 c =
     let w = c .before in
     let a = w .before .before .before .before .before .args in
-    z-low (a .t .now) (placeOf (a .first) (a .k)) (allPosts (a .t .now) (a .first) (a .k)) (w .before .before .if1 .left) _
+    z-low (a .t .now) (placeOf (a .first) (a .k)) (allCommunications (a .t .now) (a .first) (a .k)) (w .before .before .if1 .left) _
     (w .wide .ensures .0) (c .if2 .taken)
 
 cast-t13 : tie.Need-cast-t13
@@ -55,11 +55,11 @@ returns-3 : tie.Need-returns-3
 returns-3 c =
     let w = c .before .before in
     let a = w .before .before .before .before .before .args in
-    z-high (a .t .now) (placeOf (a .first) (a .k)) (allPosts (a .t .now) (a .first) (a .k)) (w .before .before .if1 .left) _
+    z-high (a .t .now) (placeOf (a .first) (a .k)) (allCommunications (a .t .now) (a .first) (a .k)) (w .before .before .if1 .left) _
     (w .wide .ensures .0) (c .if3 .taken)
 
-all-posts-requires : tie.Need-all-posts-requires
-all-posts-requires c κs = search needs
+all-communications-requires : tie.Need-all-communications-requires
+all-communications-requires c κs = search needs
 
 add-if5 : tie.Need-add-if5
 add-if5 c = search needs
@@ -74,10 +74,10 @@ returns-4 : tie.Need-returns-4
 returns-4 c =
     let w = c .before .before .before .before .before .before in
     let a = w .before .before .before .before .before .args in
-    q-used (a .t .now) (placeOf (a .first) (a .k)) (allPosts (a .t .now) (a .first) (a .k)) (w .before .before .if1 .left) _
+    q-used (a .t .now) (placeOf (a .first) (a .k)) (allCommunications (a .t .now) (a .first) (a .k)) (w .before .before .if1 .left) _
     (w .wide .ensures .0)
     (c .before .before .before .before .before .if2 .left) (c .before .before .before .before .if3 .left) 8 _
-    (c .before .before .before .all-posts .ensures)
+    (c .before .before .before .all-communications .ensures)
     (c .before .before .if4 .taken) (c .if5 .taken)
 
 blank-requires : tie.Need-blank-requires
@@ -87,10 +87,10 @@ returns-5 : tie.Need-returns-5
 returns-5 c =
     let w = c .before .before .before .before .before .before .before .before in
     let a = w .before .before .before .before .before .args in
-    past-list (a .t .now) (placeOf (a .first) (a .k)) (allPosts (a .t .now) (a .first) (a .k)) (w .before .before .if1 .left) _
+    past-list (a .t .now) (placeOf (a .first) (a .k)) (allCommunications (a .t .now) (a .first) (a .k)) (w .before .before .if1 .left) _
     (w .wide .ensures .0)
     (c .before .before .before .before .before .before .before .if2 .left)
-    (c .before .before .before .before .before .before .if3 .left) 8 _ (c .before .before .before .before .before .all-posts .ensures)
+    (c .before .before .before .before .before .before .if3 .left) 8 _ (c .before .before .before .before .before .all-communications .ensures)
     (c .before .before .before .before .if4 .taken) (c .before .before .if5 .left)
     (said-yes 9 _ (c .before .blank .ensures) (c .if6 .taken))
 
@@ -101,10 +101,10 @@ returns-6 : tie.Need-returns-6
 returns-6 c =
     let w = c .before .before .before .before .before .before .before .before in
     let a = w .before .before .before .before .before .args in
-    past-list (a .t .now) (placeOf (a .first) (a .k)) (allPosts (a .t .now) (a .first) (a .k)) (w .before .before .if1 .left) _
+    past-list (a .t .now) (placeOf (a .first) (a .k)) (allCommunications (a .t .now) (a .first) (a .k)) (w .before .before .if1 .left) _
     (w .wide .ensures .0)
     (c .before .before .before .before .before .before .before .if2 .left)
-    (c .before .before .before .before .before .before .if3 .left) 8 _ (c .before .before .before .before .before .all-posts .ensures)
+    (c .before .before .before .before .before .before .if3 .left) 8 _ (c .before .before .before .before .before .all-communications .ensures)
     (c .before .before .before .before .if4 .taken) (c .before .before .if5 .left) (said-no (c .before .blank .ensures) (c .if6 .left))
 
 cast-t22 : tie.Need-cast-t22
@@ -114,9 +114,9 @@ returns-7 : tie.Need-returns-7
 returns-7 c =
     let w = c .before .before .before .before in
     let a = w .before .before .before .before .before .args in
-    list-wrong (a .t .now) (placeOf (a .first) (a .k)) (allPosts (a .t .now) (a .first) (a .k)) (w .before .before .if1 .left) _
+    list-wrong (a .t .now) (placeOf (a .first) (a .k)) (allCommunications (a .t .now) (a .first) (a .k)) (w .before .before .if1 .left) _
     (w .wide .ensures .0)
-    (c .before .before .before .if2 .left) (c .before .before .if3 .left) 8 _ (c .before .all-posts .ensures)
+    (c .before .before .before .if2 .left) (c .before .before .if3 .left) 8 _ (c .before .all-communications .ensures)
     (c .if4 .left)
 
 pub any-spec : {M : Type 1} → statement M
@@ -136,7 +136,7 @@ any-spec =
     returns-2
     cast-t13
     returns-3
-    all-posts-requires
+    all-communications-requires
     add-if5
     shared-slice-read-if5
     cast-t19

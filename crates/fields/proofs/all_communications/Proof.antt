@@ -1,4 +1,4 @@
--- `fields::all_posts` meets its contract. The loop's invariant: the checks from i on are as good as all of them.
+-- `fields::all_communications` meets its contract. The loop's invariant: the checks from i on are as good as all of them.
 -- Assumes nothing.
 use Prim.Native.Nat.{ℕ, _-_, _≤_}
 use mathlib.Core.Path.{_≡_, _∙_, sym}
@@ -10,15 +10,15 @@ use Rattle.table.specs.Outcome.{Outcome, demand, each}
 use Rattle.table.proofs.Checks.{each-begin, each-go, each-stop, each-end}
 use Rattle.table.specs.Format.{listedAt, placeOf}
 use Rattle.table.specs.Read.{allowed}
-use Rattle.fields.proofs.Posts.{posts-below, posts-above, posts-between}
-use Rattle.fields.proofs.all_posts.Statement.{statement}
-use Rattle.fields.proofs.all_posts.Tie as tie
+use Rattle.fields.proofs.CommunicationKinds.{communications-below, communications-above, communications-between}
+use Rattle.fields.proofs.all_communications.Statement.{statement}
+use Rattle.fields.proofs.all_communications.Tie as tie
 
-abbrev post : List ℕ → ℕ → ℕ → ℕ → Outcome
-post t first k i = demand (allowed t first k (listedAt t (placeOf first k) i)) 8 (placeOf first k)
+abbrev listing-right : List ℕ → ℕ → ℕ → ℕ → Outcome
+listing-right t first k i = demand (allowed t first k (listedAt t (placeOf first k) i)) 8 (placeOf first k)
 
 abbrev Inv-loop : tie.InvT-loop
-Inv-loop t first k z at i₀ i = (i ≤ z) × (each (post t first k) z 0 ≡ each (post t first k) (z - i) i)
+Inv-loop t first k z at i₀ i = (i ≤ z) × (each (listing-right t first k) z 0 ≡ each (listing-right t first k) (z - i) i)
 
 abbrev μ-loop : tie.MeasureT-loop
 μ-loop t first k z at i₀ i = z - i
@@ -32,7 +32,7 @@ add-at c = search needs
 loop-holds : tie.Need-loop-holds Inv-loop μ-loop
 loop-holds c =
     let a = c .before .args in
-    (search needs, each-begin (post (a .t .now) (a .first) (a .k)) (a .z))
+    (search needs, each-begin (listing-right (a .t .now) (a .first) (a .k)) (a .z))
 
 add-wide : tie.Need-add-wide Inv-loop μ-loop
 add-wide c = search needs
@@ -52,7 +52,7 @@ returns c =
     let l = c .before .before .before .before .loop in
     sym
     (l .inv .1
-    ∙ each-stop (post (a .t .now) (a .first) (a .k)) (a .z) (l .i) 8 (placeOf (a .first) (a .k))
+    ∙ each-stop (listing-right (a .t .now) (a .first) (a .k)) (a .z) (l .i) 8 (placeOf (a .first) (a .k))
     (c .before .before .before .loop-test .taken)
     (simp (← c .before .wide .ensures .0, le-ltb _ _ (c .if1 .taken))))
 
@@ -71,9 +71,9 @@ returns-2 c =
     let l = c .before .before .before .before .before .before .loop in
     sym
     (l .inv .1
-    ∙ each-stop (post (a .t .now) (a .first) (a .k)) (a .z) (l .i) 8 (placeOf (a .first) (a .k))
+    ∙ each-stop (listing-right (a .t .now) (a .first) (a .k)) (a .z) (l .i) 8 (placeOf (a .first) (a .k))
     (c .before .before .before .before .before .loop-test .taken)
-    (simp (← c .before .before .before .wide .ensures .0, lt-ltb _ _ (c .before .before .if1 .left), posts-below _ (c .if2 .taken))))
+    (simp (← c .before .before .before .wide .ensures .0, lt-ltb _ _ (c .before .before .if1 .left), communications-below _ (c .if2 .taken))))
 
 returns-3 : tie.Need-returns-3 Inv-loop μ-loop
 returns-3 c =
@@ -81,12 +81,12 @@ returns-3 c =
     let l = c .before .before .before .before .before .before .before .loop in
     sym
     (l .inv .1
-    ∙ each-stop (post (a .t .now) (a .first) (a .k)) (a .z) (l .i) 8 (placeOf (a .first) (a .k))
+    ∙ each-stop (listing-right (a .t .now) (a .first) (a .k)) (a .z) (l .i) 8 (placeOf (a .first) (a .k))
     (c .before .before .before .before .before .before .loop-test .taken)
     (simp (
       ← c .before .before .before .before .wide .ensures .0,
       lt-ltb _ _ (c .before .before .before .if1 .left),
-      posts-above _
+      communications-above _
           (c .if3 .taken),
     )))
 
@@ -102,11 +102,11 @@ loop-again c =
     let l = c .before .before .before .before .before .before .before .loop in (
       omega arith,
       l .inv .1
-          ∙ each-go (post (a .t .now) (a .first) (a .k)) (a .z) (l .i) (c .before .before .before .before .before .before .loop-test .taken)
+          ∙ each-go (listing-right (a .t .now) (a .first) (a .k)) (a .z) (l .i) (c .before .before .before .before .before .before .loop-test .taken)
           (simp (
             ← c .before .before .before .before .wide .ensures .0,
             lt-ltb _ _ (c .before .before .before .if1 .left),
-            posts-between _
+            communications-between _
                 (c .before .if2 .left) (c .if3 .left),
           )),
     )
@@ -115,10 +115,10 @@ returns-4 : tie.Need-returns-4 Inv-loop μ-loop
 returns-4 c =
     let a = c .before .before .before .args in
     let l = c .before .loop in
-    sym (l .inv .1 ∙ each-end (post (a .t .now) (a .first) (a .k)) (a .z) (l .i) (c .loop-test .left))
+    sym (l .inv .1 ∙ each-end (listing-right (a .t .now) (a .first) (a .k)) (a .z) (l .i) (c .loop-test .left))
 
-pub all-posts-spec : {M : Type 1} → statement M
-all-posts-spec =
+pub all-communications-spec : {M : Type 1} → statement M
+all-communications-spec =
     tie.close
     (tie.spec
     Inv-loop
