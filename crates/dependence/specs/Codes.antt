@@ -58,8 +58,8 @@ codeOf i j =
 
 -- of an action on m, a mailbox or a mutex, that lists l, and another on n, of which the first has the higher kind or both the same; `own` are the
 -- actions of the first one's actor
-abbrev pub comparisonOf : ℕ → (ℕ → Action) → ℕ → List ℕ → ℕ → Bool
-comparisonOf code own m l n =
+abbrev pub codeCompares : ℕ → (ℕ → Action) → ℕ → List ℕ → ℕ → Bool
+codeCompares code own m l n =
     getD
     -- 0: nothing, they are independent
     (false
@@ -80,16 +80,4 @@ comparisonOf code own m l n =
     false
 
 abbrev pub comparison : ℕ → (ℕ → Action) → Action → Action → Bool
-comparison code own x y = comparisonOf code own (targetOf x) (listOf x) (targetOf y)
-
--- two actions of different actors by their code: a Test or Wait has a higher kind than what it is compared with, so the higher kind comes first
-abbrev pub compared : (own other : ℕ → Action) → Action → Action → Bool
-compared own other x y =
-    cond (ltb (kindOf x) (kindOf y)) (comparison (codeOf (kindOf x) (kindOf y)) other y x)
-    (comparison (codeOf (kindOf x) (kindOf y)) own x y)
-
--- the pair verdict by the codes
-abbrev pub byCode : List ℕ → Name → Name → Bool
-byCode table x y =
-    eqb (x .actor) (y .actor)
-    || compared (actionOf table (x .actor)) (actionOf table (y .actor)) (actionAt table x) (actionAt table y)
+comparison code own x y = codeCompares code own (targetOf x) (listOf x) (targetOf y)

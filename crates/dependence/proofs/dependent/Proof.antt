@@ -1,11 +1,11 @@
 -- `dependence::dependent` meets its contract: the law of the codes, from what was looked up.
 -- Assumes nothing.
-use mathlib.Core.Path.{sym}
+use mathlib.Core.Path.{sym, _∙_}
 use native.Mathlib.Omega.{arith}
 use Rattle.model.specs.Site.{name}
-use Rattle.model.proofs.PairCases.{depends-own}
+use Rattle.model.proofs.PairCases.{depends-own, depends-symmetric}
 use Rattle.actions.proofs.ByKind.{by-kind}
-use Rattle.dependence.proofs.CodeLaw.{higher-first, lower-first}
+use Rattle.dependence.proofs.CodeLaw.{looked-up}
 use Rattle.dependence.proofs.CodeRanges.{own-listed}
 use borrow.Author.Needs.{needs}
 use Rattle.dependence.proofs.dependent.Statement.{statement}
@@ -46,13 +46,13 @@ compare-requires c κs =
 returns-2 : tie.Need-returns-2
 returns-2 c =
     let x = c .before .before .before .before .before .before .before .before .before .args in
-    lower-first (x .table .now) (x .a) (x .k) (x .b) (x .l)
-    (c .before .before .before .before .before .before .action .result) (c .before .before .before .before .before .action2 .result)
-    (c .before .before .before .before .kind .result) (c .before .before .before .kind2 .result) (c .before .before .code .result)
-    (c .before .before .before .before .before .before .action .ensures) (c .before .before .before .before .before .action2 .ensures)
-    (c .before .before .before .before .kind .ensures) (c .before .before .before .kind2 .ensures) (c .before .before .code .ensures .0)
-    (c .before .before .before .before .before .before .before .if1 .left) (c .compare .result)
-    (c .before .if2 .taken) (c .compare .ensures)
+    looked-up (x .table .now) (x .b) (x .l) (x .a) (x .k)
+    (c .before .before .before .before .before .action2 .result) (c .before .before .before .before .before .before .action .result)
+    (c .before .before .before .kind2 .result) (c .before .before .before .before .kind .result) (c .before .before .code .result)
+    (c .before .before .before .before .before .action2 .ensures) (c .before .before .before .before .before .before .action .ensures)
+    (c .before .before .before .kind2 .ensures) (c .before .before .before .before .kind .ensures) (c .before .before .code .ensures .1)
+    (λ e. c .before .before .before .before .before .before .before .if1 .left (sym e)) (omega (arith, c .before .if2 .taken)) (c .compare .result) (c .compare .ensures)
+    ∙ depends-symmetric (x .table .now) (name (x .b) (x .l)) (name (x .a) (x .k))
 
 compare-requires-2 : tie.Need-compare-requires-2
 compare-requires-2 c κs =
@@ -66,13 +66,12 @@ compare-requires-2 c κs =
 returns-3 : tie.Need-returns-3
 returns-3 c =
     let x = c .before .before .before .before .before .before .before .before .before .args in
-    higher-first (x .table .now) (x .a) (x .k) (x .b) (x .l)
+    looked-up (x .table .now) (x .a) (x .k) (x .b) (x .l)
     (c .before .before .before .before .before .before .action .result) (c .before .before .before .before .before .action2 .result)
     (c .before .before .before .before .kind .result) (c .before .before .before .kind2 .result) (c .before .before .code .result)
     (c .before .before .before .before .before .before .action .ensures) (c .before .before .before .before .before .action2 .ensures)
     (c .before .before .before .before .kind .ensures) (c .before .before .before .kind2 .ensures) (c .before .before .code .ensures .0)
-    (c .before .before .before .before .before .before .before .if1 .left) (c .compare2 .result)
-    (c .before .if2 .left) (c .compare2 .ensures)
+    (c .before .before .before .before .before .before .before .if1 .left) (c .before .if2 .left) (c .compare2 .result) (c .compare2 .ensures)
 
 pub dependent-spec : {M : Type 1} → statement M
 dependent-spec =
