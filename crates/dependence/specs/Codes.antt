@@ -3,21 +3,12 @@
 use Prim.Native.Nat.{ℕ}
 use mathlib.Core.Bool.{Bool, true, false, _&&_, _||_, cond}
 use mathlib.Core.List.{List, [], _∷_}
-use lib.Dec.{eqb, ltb}
+use lib.Dec.{eqb}
 use lib.ListN.{getD}
 use Rattle.table.specs.declared.Action.{Action}
-use Rattle.table.specs.Decode.{actionOf}
-use Rattle.trace.specs.Machine.{Name}
 use Rattle.trace.specs.Order.{has}
-use Rattle.model.specs.Step.{actionAt}
 use Rattle.model.specs.Pair.{anyOf}
 use Rattle.actions.specs.Fields.{kindOf, targetOf, listOf}
-
--- ---- what is compared of an action
-
--- it is of this kind, a Send's or a Receive's, on this mailbox
-abbrev pub isOn : ℕ → ℕ → Action → Bool
-isOn kind mailbox x = eqb (kindOf x) kind && eqb (targetOf x) mailbox
 
 -- ---- the rule of the table: which code stands for two kinds
 
@@ -54,10 +45,13 @@ codeOf i j =
     cond (bothMail i j) 1
     (cond (either testSend i j) 2 (cond (either testReceive i j) 3 (cond (bothLock i j) 4 (cond (either testUnlock i j) 5 (cond (bothNote i j) 6 0)))))
 
--- ---- what a code compares
+-- ---- what a code compares, of two actions of which the first has the higher kind, or both the same
 
--- of an action on m, a mailbox or a mutex, that lists l, and another on n, of which the first has the higher kind or both the same; `own` are the
--- actions of the first one's actor
+-- an action is of this kind, a Send's or a Receive's, on this mailbox
+abbrev pub isOn : ℕ → ℕ → Action → Bool
+isOn kind mailbox x = eqb (kindOf x) kind && eqb (targetOf x) mailbox
+
+-- the first is on m, a mailbox or a mutex, and lists l, and the other is on n; `own` are the actions of the first one's actor
 abbrev pub codeCompares : ℕ → (ℕ → Action) → ℕ → List ℕ → ℕ → Bool
 codeCompares code own m l n =
     getD
