@@ -12,7 +12,7 @@ use Rattle.model.specs.Pair.{isJoin, isNote, competes, answers, anyOf, meets}
 use Rattle.model.proofs.Upd.{test-symmetric}
 use Rattle.model.proofs.Ports.{number-test}
 use Rattle.actions.specs.Fields.{targetIn, listIn}
-use Rattle.dependence.specs.Codes.{isOn, codeCompares}
+use Rattle.dependence.specs.Codes.{codeCompares}
 use Rattle.dependence.proofs.MailKinds.{isSide, port, on-port, mail-by-kind}
 
 -- ---- the code asked for

@@ -2,7 +2,7 @@
 -- the two ask for, and the only one, is one computed test over every two kinds.
 -- Assumes nothing.
 use Prim.Native.Nat.{ℕ, _≤_}
-use mathlib.Core.Path.{_≡_, refl, sym, _∙_, ap}
+use mathlib.Core.Path.{_≡_, refl, sym, _∙_}
 use mathlib.Core.Logic.{_⊎_, inl, inr, _↔_}
 use mathlib.Core.Bool.{Bool, true, _&&_, _||_, or-false}
 use mathlib.Core.List.{List}
@@ -21,7 +21,7 @@ use Rattle.model.proofs.PairCases.{pair-cases}
 use Rattle.actions.specs.Fields.{kindOf, targetOf, listOf, postBy, lookBy}
 use Rattle.actions.proofs.ByKind.{by-kind}
 use Rattle.actions.proofs.EveryKind.{everyTwo, at-two}
-use Rattle.dependence.specs.Codes.{codeOf, codeCompares, comparison}
+use Rattle.dependence.specs.Codes.{codeOf, comparison}
 use Rattle.dependence.proofs.Asked.{ofPosts, ofLook, competing, meeting}
 
 -- ---- the test
