@@ -1,7 +1,7 @@
 -- The C structs' fields: `refusal` 0 where accepted, and then the answer; otherwise the refusal's number with its position, and 0 elsewhere. A
 -- remainder has none of it.
 -- Assumes nothing: these are definitions.
-use Prim.Native.Nat.{ℕ, min}
+use Prim.Native.Nat.{ℕ}
 use mathlib.Core.Path.{_≡_}
 use mathlib.Core.List.{List}
 use Rattle.table.specs.Outcome.{Outcome, numberOf, positionOf}
@@ -55,13 +55,9 @@ abbrev pub recordingNumber : Recording → ℕ
 recordingNumber theFirst = 1
 recordingNumber theSecond = 2
 
--- a number that 32 bits do not hold is given as the largest that they do
-abbrev pub bounded : ℕ → ℕ
-bounded n = min n 4294967295
-
 -- the remainder call refuses nothing, so there is no refusal to tell
 abbrev pub remainderFields : Part → OrderRemainder
-remainderFields p = record { recording = recordingNumber (p .recording); from = bounded (p .from); length = bounded (p .length) }
+remainderFields p = record { recording = recordingNumber (p .recording); from = p .from; length = p .length }
 
 -- the fields of a right answer of the route call, with the buffer before and after it
 abbrev pub RightFields : (table first second before after : List ℕ) → OrderLength → Type 0

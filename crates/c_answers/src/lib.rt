@@ -4,7 +4,7 @@ ghost use mathlib.Core.Path.{_≡_};
 ghost use Rattle.table.specs.Answer.{outcome};
 ghost use Rattle.model.specs.Calls.{gives};
 ghost use Rattle.answers.specs.Answers.{lengthResult, readinessOf, endingAs, readyResult, pairResult, sameResult, recordingOf, partOf};
-ghost use Rattle.c_answers.specs.Fields.{checkFields, lengthFields, readyFields, endingNumber, pairFields, sameFields, recordingNumber, bounded, remainderFields};
+ghost use Rattle.c_answers.specs.Fields.{checkFields, lengthFields, readyFields, endingNumber, pairFields, sameFields, recordingNumber, remainderFields};
 use answers::Ending;
 use answers::LengthAnswer;
 use answers::PairAnswer;
@@ -172,8 +172,8 @@ pub fn same(answer: SameAnswer) -> OrderSame
 #[repr(C)]
 pub struct OrderRemainder {
     pub recording: u32,
-    pub from: u32,
-    pub length: u32,
+    pub from: usize,
+    pub length: usize,
 }
 
 pub fn remainder(part: Part) -> OrderRemainder
@@ -182,8 +182,8 @@ pub fn remainder(part: Part) -> OrderRemainder
     let recording = part.recording;
     OrderRemainder {
         recording: recording_number(recording),
-        from: in_32_bits(part.from),
-        length: in_32_bits(part.length),
+        from: part.from,
+        length: part.length,
     }
 }
 
@@ -194,11 +194,4 @@ fn recording_number(recording: Recording) -> u32
         Recording::First => 1,
         Recording::Second => 2,
     }
-}
-
-// A number that 32 bits do not hold becomes the largest that they do.
-fn in_32_bits(n: usize) -> u32
-    ensures { λ r. ⌜ r ≡ bounded n ⌝ }
-{
-    if n < 4294967295 { n as u32 } else { 4294967295 }
 }

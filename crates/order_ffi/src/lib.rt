@@ -8,6 +8,8 @@ ghost use Rattle.model.specs.Recordings.{prefixComparisonOf, remainderOf};
 ghost use Rattle.model.specs.Page.{pageOf};
 ghost use Rattle.model.specs.Draw.{drawOf};
 ghost use Rattle.c_answers.specs.Fields.{checkFields, lengthFields, readyFields, pairFields, sameFields, remainderFields, RightFields};
+use answers::Part;
+use answers::Recording;
 use c_answers::OrderCheck;
 use c_answers::OrderLength;
 use c_answers::OrderPair;
@@ -79,12 +81,28 @@ pub extern "C" fn order_prefix(table: &[u8], first: &[u8], second: &[u8]) -> Ord
     c_answers::same(order::prefix(table, first, second))
 }
 
-// Which part of which recording is the remainder of the longer, by the two lengths.
+// Which part of which recording is the remainder of the longer: as long as what `remainder` hands
+// back, at the end of that recording.
 #[no_mangle]
-pub extern "C" fn order_remainder(first: &[u8], second: &[u8]) -> OrderRemainder
+pub extern "C" fn order_remainder<'a>(first: &'a [u8], second: &'a [u8]) -> OrderRemainder
     ensures { λ r. ⌜ r ≡ remainderFields (remainderOf (length (now (first .entry))) (length (now (second .entry)))) ⌝ }
 {
-    c_answers::remainder(remainder_call::part(first.len(), second.len()))
+    let length = order::remainder(first, second).len();
+    if first.len() < second.len() {
+        let from = second.len() - length;
+        c_answers::remainder(Part {
+            recording: Recording::Second,
+            from,
+            length,
+        })
+    } else {
+        let from = first.len() - length;
+        c_answers::remainder(Part {
+            recording: Recording::First,
+            from,
+            length,
+        })
+    }
 }
 
 // Draws a schedule from a seed, from a fresh site, and writes its entries.
