@@ -221,13 +221,11 @@ enum OrderRecording {
     ORDER_SECOND = 2
 };
 
-/* A remainder: the last `length` entries of `recording`, an OrderRecording, from index `from` on. A number past
- * 4,294,967,295 is given as 4,294,967,295.
- */
+/* A remainder: the last `length` entries of `recording`, an OrderRecording, from index `from` on. */
 typedef struct {
     uint32_t recording;
-    uint32_t from;
-    uint32_t length;
+    size_t from;
+    size_t length;
 } OrderRemainder;
 
 /* The remainder of the longer recording after the length of the shorter; with equal lengths the empty end of the

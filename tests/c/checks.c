@@ -14,11 +14,11 @@ void expect(int holds, const char *call, const char *what)
     }
 }
 
-void expect_number(uint32_t is, uint32_t wanted, const char *call, const char *what)
+void expect_number(size_t is, size_t wanted, const char *call, const char *what)
 {
     if (is != wanted) {
         failures++;
-        printf("%s: %s is %lu, not %lu\n", call, what, (unsigned long)is, (unsigned long)wanted);
+        printf("%s: %s is %zu, not %zu\n", call, what, is, wanted);
     }
 }
 

@@ -19,7 +19,7 @@ extern uint8_t table_a[TABLE_A];
 extern int failures;
 
 void expect(int holds, const char *call, const char *what);
-void expect_number(uint32_t is, uint32_t wanted, const char *call, const char *what);
+void expect_number(size_t is, size_t wanted, const char *call, const char *what);
 
 /* What a call is lent, with copies to compare with. */
 typedef struct {

@@ -3,6 +3,11 @@
  */
 #include "checks.h"
 
+/* A remainder's numbers have all bits of a length; the compiler leaves room before them. */
+_Static_assert(offsetof(OrderRemainder, from) == 8 && offsetof(OrderRemainder, length) == 16 &&
+                   sizeof(OrderRemainder) == 24,
+               "recording, four bytes without a use, from, length");
+
 /* Recordings of table A; the last entry of a bad one is refused. */
 static const uint8_t whole[] = {0, 0, 1, 1}, begun[] = {1, 0, 0}, other[] = {1, 0};
 static const uint8_t absent[] = {0, 0, 7, 7}, done[] = {0, 0, 0, 7}, waits[] = {1, 0, 1, 7};
@@ -59,7 +64,7 @@ static void prefixes(void)
 
 /* The remainder is of `recording` and begins at `begin`, in the caller's memory. */
 static void left(const uint8_t *first, size_t first_length, const uint8_t *second, size_t second_length,
-                 uint32_t recording, const uint8_t *begin, uint32_t length)
+                 uint32_t recording, const uint8_t *begin, size_t length)
 {
     OrderRemainder answer = order_remainder(first, first_length, second, second_length);
     const uint8_t *of = answer.recording == ORDER_FIRST ? first : second;

@@ -18,16 +18,16 @@ pub enum Recording {
     Second,
 }
 
-/// A remainder as C has it. A number past 4,294,967,295 is given as 4,294,967,295.
+/// A remainder as C has it.
 #[repr(C)]
 #[derive(Clone, Copy, PartialEq, Eq, Hash, Debug)]
 pub struct Remainder {
     /// The recording that it is of: 1 the first, 2 the second.
     pub recording: u32,
     /// The index at which it begins there.
-    pub from: u32,
+    pub from: usize,
     /// How many entries it has.
-    pub length: u32,
+    pub length: usize,
 }
 
 impl Remainder {
@@ -52,11 +52,12 @@ impl Remainder {
 /// assert!(order_engine::remainder(&server, &server).is_empty());
 /// ```
 pub fn remainder<'a>(first: &'a [u8], second: &'a [u8]) -> &'a [u8] {
-    // The engine says which is left over; its part begins at the other's length, which has all its bits.
-    match fields(first, second).which() {
-        Recording::First => &first[second.len()..],
-        Recording::Second => &second[first.len()..],
-    }
+    let left = fields(first, second);
+    let whole = match left.which() {
+        Recording::First => first,
+        Recording::Second => second,
+    };
+    &whole[left.from..][..left.length]
 }
 
 /// The answer as C has it.

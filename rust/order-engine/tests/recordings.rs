@@ -3,6 +3,7 @@
 use order_engine::SameVerdict::{Different, Same};
 use order_engine::remainder::Remainder;
 use order_engine::{Recording, Refusal, SameVerdict, prefix, remainder, same};
+use std::mem::{offset_of, size_of};
 use std::ptr::{self, without_provenance};
 use tables::TABLE_A as A;
 
@@ -49,7 +50,7 @@ fn a_part_of_the_callers_own_bytes() {
 fn with_equal_lengths_the_end_of_the_first() {
     let all = [0, 0, 1, 1, 2];
     for (first, second) in [(0..3, 2..5), (2..5, 0..3), (1..4, 1..4), (2..2, 4..4)] {
-        let (from, end) = (first.len() as u32, first.end);
+        let (from, end) = (first.len(), first.end);
         let (first, second) = (&all[first], &all[second]);
         assert!(ptr::eq(remainder(first, second), &all[end..end]));
         let wanted = Remainder {
@@ -71,28 +72,38 @@ unsafe extern "C" {
 }
 
 /// The C struct's numbers for two recordings of these lengths, which lie where nothing can be read.
-fn unread(first: usize, second: usize) -> [u32; 3] {
+fn unread(first: usize, second: usize) -> (u32, usize, usize) {
     let nowhere = without_provenance(1);
     // SAFETY: the call looks at the lengths alone; a read would end the program.
     let answer = unsafe { order_remainder(nowhere, first, nowhere, second) };
-    [answer.recording, answer.from, answer.length]
+    (answer.recording, answer.from, answer.length)
 }
 
 #[test]
 fn no_byte_is_read() {
-    assert_eq!(unread(7, 5), [1, 5, 2]);
-    assert_eq!(unread(5, 7), [2, 5, 2]);
-    assert_eq!(unread(5, 5), [1, 5, 0]);
+    assert_eq!(unread(7, 5), (1, 5, 2));
+    assert_eq!(unread(5, 7), (2, 5, 2));
+    assert_eq!(unread(5, 5), (1, 5, 0));
 }
 
 #[test]
-fn numbers_stop_at_32_bits() {
-    const MOST: u32 = u32::MAX;
-    let most = MOST as usize;
-    assert_eq!(unread(most, 0), [1, 0, MOST]);
-    assert_eq!(unread(most + 1, 0), [1, 0, MOST]);
-    assert_eq!(unread(3, most + 4), [2, 3, MOST]);
-    assert_eq!(unread(most + 2, most), [1, MOST, 2]);
-    assert_eq!(unread(most + 1, most + 2), [2, MOST, 1]);
-    assert_eq!(unread(2 * most, 2 * most), [1, MOST, 0]);
+fn numbers_past_32_bits() {
+    const FULL: usize = u32::MAX as usize;
+    const MOST: usize = isize::MAX as usize;
+    assert_eq!(unread(FULL, 0), (1, 0, FULL));
+    assert_eq!(unread(FULL + 1, 0), (1, 0, FULL + 1));
+    assert_eq!(unread(3, FULL + 4), (2, 3, FULL + 1));
+    assert_eq!(unread(FULL + 2, FULL), (1, FULL, 2));
+    assert_eq!(unread(FULL + 1, FULL + 2), (2, FULL + 1, 1));
+    assert_eq!(unread(2 * FULL, 2 * FULL), (1, 2 * FULL, 0));
+    assert_eq!(unread(MOST, FULL + 1), (1, FULL + 1, MOST - FULL - 1));
+    assert_eq!(unread(1, MOST), (2, 1, MOST - 1));
+}
+
+#[test]
+fn the_struct_of_c() {
+    assert_eq!(offset_of!(Remainder, recording), 0);
+    assert_eq!(offset_of!(Remainder, from), 8);
+    assert_eq!(offset_of!(Remainder, length), 16);
+    assert_eq!(size_of::<Remainder>(), 24);
 }

@@ -59,7 +59,7 @@ fn slices([first, second]: [Vec<u8>; 2]) -> [Vec<u8>; 3] {
 /// The proved engine's answer: it has no refusal.
 fn ours(first: &[u8], second: &[u8]) -> Answer {
     let left = order_engine::remainder::fields(first, second);
-    Ok([left.recording, left.from, left.length]).into()
+    Ok([left.recording, number(left.from), number(left.length)]).into()
 }
 
 /// The reference's answer.
@@ -69,7 +69,13 @@ fn theirs(first: &[u8], second: &[u8]) -> Answer {
         Schedule::First => 1,
         Schedule::Second => 2,
     };
-    Ok([recording, left.from as u32, left.entries.len() as u32]).into()
+    Ok([recording, number(left.from), number(left.entries.len())]).into()
+}
+
+/// A number of an answer. Recordings lent here have far fewer than 2^32 entries, so that one that is
+/// larger is wrong, whatever it is.
+fn number(n: usize) -> u32 {
+    u32::try_from(n).unwrap_or(u32::MAX)
 }
 
 fn note(tally: &mut Tally, asked: &Asked) {
