@@ -3,7 +3,7 @@
 # make test     everything: the documents, layout, the trust list, every proof and must-fail edit, the Rust side, the calls from C, the examples, the
 #               listings, the command `order`, the comparison; then the seconds of each, and the verdict
 # make docs     the Markdown files: code blocks against the files that they are taken from, links
-# make trust    the list of what a reader must believe, docs/PROOFS.md, compared with the definition files
+# make trust    the list of what a reader must believe, docs/PROOFS.md, compared with the definition files; what public contracts may not do
 # make compare  the proved calls compared with the reference
 # make bench    the proved engine's times and instructions against the reference's; writes docs/BENCHMARK.md
 # make soak     the comparison from a random seed, MINUTES=n minutes long
@@ -63,6 +63,7 @@ docs:
 	tests/docs/check
 
 trust:
+	tests/trust/check --self-test
 	tests/trust/check
 
 compare: $(LIB)

@@ -1,14 +1,7 @@
-# Which definition files the public contracts and demand 3 reach. Reads, in this order, crates.txt, every .antt file of specs/ and the sources
-# of the public crates. Prints the trust list; with why=FILE, a shortest chain of `use` lines that leads to FILE.
-# A contract reaches the files from which its names are imported; a file reaches all that it imports. Where the text leaves a doubt, more is reached.
-
-function fault(said) { print "trust: " said > "/dev/stderr"; faults++ }
-
-# ---- imports
-
-function is_library(path) { return path ~ /^(Prim|mathlib|lib|borrow|native|denote\.Ref)\./ }
-
-function crate_of(file) { sub(/^crates\//, "", file); sub(/\/.*/, "", file); return file }
+# Which definition files the public contracts and demand 3 reach, of what read.awk has read. Prints the trust list; with why=FILE, a shortest chain of
+# `use` lines that leads to FILE. public has the public crates, demand the file of demand 3.
+# A contract reaches the files from which its names are imported and the types that it names; a file reaches all that it imports; a type that a call
+# reaches has its public methods, which are calls too. Where the text leaves a doubt, more is reached.
 
 # The file that an import names, or the type, as `crate: Name`; "" where there is none.
 function target(path, place,    crate, rest, part, n, k, file) {
@@ -30,41 +23,7 @@ function target(path, place,    crate, rest, part, n, k, file) {
     return ""
 }
 
-# A name that a source file imports; "*" is one that every contract has.
-function bind(name, path, place,    n) {
-    n = ++binds[FILENAME]
-    bound_name[FILENAME, n] = name; bound_path[FILENAME, n] = path; bound_at[FILENAME, n] = place
-}
-
-# `ghost use PATH.{a, b as c};` or `ghost use PATH as c;`
-function bind_all(text,    path, list, names, n, k, place) {
-    place = FILENAME ":" FNR ": " text
-    sub(/^[ \t]*ghost use[ \t]+/, "", text); sub(/[ \t]*;.*/, "", text)
-    path = text; sub(/[ \t{].*/, "", path)
-    list = substr(text, length(path) + 1); sub(/^[ \t]*\{/, "", list); sub(/\}.*/, "", list)
-    sub(/\.$/, "", path)
-    if (is_library(path)) return
-    if (path !~ /^Rattle·/) { fault("an import of unknown origin: " place); return }
-    n = split(list ~ /[^ \t]/ ? list : "*", names, ",")
-    for (k = 1; k <= n; k++) {
-        sub(/.*[ \t]as[ \t]/, "", names[k]); gsub(/[ \t]/, "", names[k])
-        if (names[k] != "") bind(names[k], path, place)
-    }
-}
-
-# ---- contracts
-
-function words(text) { gsub(/[^A-Za-z0-9'_-]/, " ", text); return " " text " " }
-
-# Whether a contract has a name; of an operator, one of its parts.
-function mentions(text, name,    part, n, k) {
-    if (name == "*") return 1
-    if (name !~ /[^A-Za-z0-9'_-]/ && index(words(text), " " name " ")) return 1
-    n = split(name, part, "_")
-    if (n < 2) return name ~ /[^A-Za-z0-9'_-]/ && index(text, name)
-    for (k = 1; k <= n; k++) if (part[k] != "" && mentions(text, part[k])) return 1
-    return 0
-}
+# ---- which calls are public
 
 # Whether a source file's module, and those above it, are public.
 function is_public(file,    name, above) {
@@ -75,6 +34,29 @@ function is_public(file,    name, above) {
     return (above, name) in public_module && is_public(above)
 }
 
+# The public crates pass on functions of other crates; all public functions of those count as calls.
+function find_calls(    part, n, k, c, crate, name) {
+    for (n = split(public, part, " "); n; n--) is_public_crate[part[n]] = with_calls[part[n]] = 1
+    for (k = 1; k <= passes; k++) {
+        if (!(crate_of(pass_file[k]) in is_public_crate)) continue
+        if (!pass_read[k]) { fault("a public import is not followed: " pass_at[k]); continue }
+        crate = pass_name[k]; sub(/::.*/, "", crate)
+        with_calls[crate] = has_call[crate_of(pass_file[k])] = passed[pass_name[k]] = 1
+    }
+    for (k = 1; k <= passes; k++)
+        if (crate_of(pass_file[k]) in with_calls && !(crate_of(pass_file[k]) in is_public_crate)) fault("a public import is not followed: " pass_at[k])
+    for (c = 1; c <= calls; c++) {
+        crate = crate_of(call_file[c]); name = crate "::" call_name[c]
+        if (c in method_of) method[call[c]] = c
+        if (!(crate in with_calls) || !is_public(call_file[c])) continue
+        queue[++roots] = call[c]; root[call[c]] = c; has_call[crate] = has_call[name] = 1
+        if (crate in is_public_crate || name in passed) cites = cites contract_text[c]
+    }
+    for (k = 1; k <= passes; k++)
+        if (pass_name[k] in passed && !(pass_name[k] in has_call)) fault("no public function for the import: " pass_at[k])
+    for (n = split(public, part, " "); n; n--) if (!(part[n] in has_call)) fault("no public function in crates/" part[n])
+}
+
 # ---- what is reached
 
 function edge(node, to, place,    n) {
@@ -82,17 +64,56 @@ function edge(node, to, place,    n) {
     n = ++edges[node]; edge_to[node, n] = to; edge_at[node, n] = place
 }
 
-# Marks all that is reached from queue[1 .. count].
+# Judges a public contract, and finds what it reaches.
+function follow(c,    file, crate, k) {
+    if (c in followed) return
+    followed[c] = 1
+    file = call_file[c]; crate = crate_of(file)
+    if (c in asks) fault("a public call asks something of its caller: " call[c])
+    if (!(c in promises)) fault("a public call promises nothing: " call[c])
+    for (k = 1; k <= call_faults[c]; k++) fault(fault_of_call[c, k])
+    for (; file_faults[file]; file_faults[file]--) fault(fault_of_file[file, file_faults[file]])
+    for (k = 1; k <= binds[file]; k++)
+        if (mentions(call_text[c], bound_name[file, k])) edge(call[c], target(bound_path[file, k], bound_at[file, k]), bound_at[file, k])
+    for (k = 1; k <= types; k++)
+        if (type_crate[k] == crate && mentions(call_text[c], type_name[k])) edge(call[c], crate ": " type_name[k], type_at[k])
+}
+
+# Marks all that is reached from queue[1 .. count]. Of demand 3 the types' methods are no part.
 function reach(mark, count,    at, k, node, to) {
     for (at = 1; at <= count; at++) {
         node = queue[at]
+        if (node in root) follow(root[node])
+        if (node in method) follow(method[node])
         for (k = 1; k <= edges[node]; k++) {
             to = edge_to[node, k]
-            if ((mark, to) in reached) continue
+            if ((mark, to) in reached || (to in method && mark != "calls")) continue
             reached[mark, to] = 1; from[mark, to] = node; by[mark, to] = edge_at[node, k]
-            queue[++count] = to; nodes[to] = 1
+            queue[++count] = to
+            if (!(to in method)) nodes[to] = 1
         }
     }
+}
+
+# A definition of a call that a file of demand 3 alone names, an import being a naming, and that no contract of a public call cites.
+function judge_demand(    f, k, n) {
+    for (f = 1; f <= file_count; f++) {
+        if (!(("demand", files[f]) in reached) || ("calls", files[f]) in reached) continue
+        for (k = 1; k <= definitions; k++) {
+            if (mentions(cites, definition[k])) continue
+            for (n = 1; n <= lines[files[f]]; n++) if (mentions(stated[files[f], n], definition[k])) break
+            if (n <= lines[files[f]]) fault("demand 3 names `" definition[k] "`, which no public contract cites: " files[f] ":" n)
+        }
+    }
+}
+
+# ---- what is printed
+
+# Ends, where there are faults.
+function judged() {
+    if (!faults) return
+    print "trust: " faults (faults == 1 ? " fault" : " faults") > "/dev/stderr"
+    exit 1
 }
 
 function chain(mark, node) {
@@ -123,93 +144,16 @@ function next_type(crate,    node, best) {
     return best
 }
 
-FILENAME == "crates.txt" { sub(/#.*/, ""); if (sub(/:.*/, "")) crates[++crate_count] = $1; next }
-
-# ---- a definition file
-
-FILENAME ~ /\.antt$/ && FNR == 1 { files[++file_count] = FILENAME }
-FILENAME ~ /\.antt$/ { lines[FILENAME] = FNR }
-FILENAME ~ /\/specs\/Lib\.antt$/ {
-    if ($1 == "pub" && $2 == "mod") { file = FILENAME; sub(/Lib\.antt$/, $3 ".antt", file); rank[file] = FNR }
-    next
-}
-FILENAME ~ /\.antt$/ {
-    place = $0; sub(/^[ \t]+/, "", place); place = FILENAME ":" FNR ": " place
-    sub(/^[ \t]*--.*/, ""); sub(/[ \t]--[ \t].*/, "")
-    if (/^[ \t]*(pub[ \t]+)?use[ \t]/) {
-        path = $0; sub(/^.*use[ \t]+/, "", path)
-        if (path !~ /^Rattle·/ && !is_library(path)) fault("an import of unknown origin: " place)
-    }
-    for (rest = $0; match(rest, /Rattle·[^ \t;(){},]*/); rest = substr(rest, RSTART + RLENGTH)) {
-        imports++
-        import_from[imports] = FILENAME; import_path[imports] = substr(rest, RSTART, RLENGTH); import_at[imports] = place
-    }
-    next
-}
-
-# ---- a source file of a public crate
-
-FNR == 1 && inside { fault("a contract without an end: " call[calls]); inside = 0 }
-{ sub(/^[ \t]*\/\/.*/, ""); sub(/[ \t]\/\/.*/, "") }
-/^[ \t]*ghost use / || pending != "" {
-    pending = pending == "" ? $0 : pending " " $0
-    if (pending ~ /;/) { bind_all(pending); pending = "" }
-    next
-}
-/^use [A-Za-z0-9_:]*::[A-Z][A-Za-z0-9_]*;/ {
-    place = FILENAME ":" FNR ": " $0
-    name = $2; sub(/;.*/, "", name); sub(/.*::/, "", name)
-    crate = $2; sub(/::.*/, "", crate)
-    bind(name, "Rattle·" (crate == "crate" ? crate_of(FILENAME) : crate) ".specs.declared." name, place)
-    next
-}
-# A public import passes on a call of another crate, whose source is read too.
-/^[ \t]*pub use / {
-    if ($0 !~ /^pub use [a-z0-9_]+::[a-z0-9_]+;$/) fault("a public import is not followed: " FILENAME ":" FNR ": " $0)
-    crate = $3; sub(/::.*/, "", crate); name = $3; sub(/;.*/, "", name)
-    passed[name] = FILENAME ":" FNR ": " $0; has_call[crate_of(FILENAME)] = 1
-}
-/^[ \t]*pub mod / { name = $3; sub(/;.*/, "", name); public_module[FILENAME, name] = 1 }
-/^[ \t]*pub (struct|enum) / {
-    name = $3; sub(/[^A-Za-z0-9_].*/, "", name)
-    types++; type_name[types] = name; type_crate[types] = crate_of(FILENAME); type_at[types] = FILENAME ":" FNR ": " $0
-}
-/^[ \t]*pub .*fn / {
-    if (inside) fault("a contract without an end: " call[calls])
-    name = $0; sub(/.*[ \t]fn[ \t]+/, "", name); sub(/[^A-Za-z0-9_].*/, "", name)
-    indent = $0; sub(/pub.*/, "", indent)
-    calls++; call[calls] = FILENAME ": " name; call_file[calls] = FILENAME
-    inside = 1; contract = 0
-}
-inside {
-    if (/^[ \t]*(requires|ensures)/) contract = 1
-    if (/^[ \t]*requires/) asks[calls] = 1
-    if ($0 == indent "{" || (!contract && /[{;]$/)) inside = 0
-    call_text[calls] = call_text[calls] " " $0
-}
-
 END {
-    if (inside || pending != "") fault("a contract or an import without an end, in " FILENAME)
     for (k = 1; k <= imports; k++) edge(import_from[k], target(import_path[k], import_at[k]), import_at[k])
-    for (c = 1; c <= calls; c++) {
-        file = call_file[c]; crate = crate_of(file)
-        if (!is_public(file)) continue
-        queue[++roots] = call[c]; has_call[crate] = 1
-        name = call[c]; sub(/.*: /, "", name); delete passed[crate "::" name]
-        if (c in asks) fault("a public call asks something of its caller: " call[c])
-        for (k = 1; k <= binds[file]; k++)
-            if (mentions(call_text[c], bound_name[file, k])) edge(call[c], target(bound_path[file, k], bound_at[file, k]), bound_at[file, k])
-        for (k = 1; k <= types; k++)
-            if (type_crate[k] == crate && mentions(call_text[c], type_name[k])) edge(call[c], crate ": " type_name[k], type_at[k])
-    }
-    for (name in passed) fault("no public function for the import: " passed[name])
-    n = split(public, part, " ")
-    for (k = 1; k <= n; k++) if (!(part[k] in has_call)) fault("no public function in crates/" part[k])
+    find_calls()
+    for (c = 1; c <= calls; c++) if (c in method_of) edge(method_of[c], call[c], call[c])
     if (!(demand in lines)) fault("there is no " demand)
     reach("calls", roots)
     queue[1] = demand; reached["demand", demand] = 1; nodes[demand] = 1
     reach("demand", 1)
-    if (faults) exit 1
+    judge_demand()
+    judged()
 
     if (why != "") {
         if (("crates/" why) in lines) why = "crates/" why
@@ -240,5 +184,5 @@ END {
     }
     print ""
     for (node in nodes) if (!(node in shown)) fault("in no crate that crates.txt lists: " node)
-    if (faults) exit 1
+    judged()
 }
