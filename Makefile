@@ -1,7 +1,7 @@
 # make run      the main job: the listing of each folder of examples/, then what the command `order` says of the forecourt; or the listing of SITE=folder
 # make cli      the command `order`, as rust/target/release/order
-# make test     everything: the documents, layout, the trust list, every proof and must-fail edit, the Rust side, the calls from C, the examples, the
-#               listings, the command `order`, the comparison; then the seconds of each, and the verdict
+# make test     everything: the documents, layout, the trust list, every proof and must-fail edit, why each edit is refused, the Rust side, the calls from
+#               C, the examples, the listings, the command `order`, the comparison; then the seconds of each, and the verdict
 # make docs     the Markdown files: code blocks against the files that they are taken from, links
 # make trust    the list of what a reader must believe, docs/PROOFS.md, compared with the definition files; what public contracts may not do
 # make compare  the proved calls compared with the reference
@@ -28,7 +28,7 @@ WARNINGS := -Wall -Wextra -Wpedantic -Werror -Wshadow -Wconversion -Wstrict-prot
 CFLAGS := -std=c11 -O1 $(WARNINGS)
 CXXFLAGS := -std=c++11 -Wall -Wextra -Wpedantic -Werror
 
-.PHONY: run cli test docs trust compare bench soak lib program layout rust c-test examples listings order-test guarded proofs toolchain clean
+.PHONY: run cli test docs trust compare bench soak lib program layout rust c-test examples listings order-test guarded proofs edits toolchain clean
 .NOTPARALLEL:
 
 run: toolchain program $(if $(SITE),,cli)
@@ -48,6 +48,7 @@ test: toolchain
 	@$(STAGE) 'layout' $(MAKE) layout
 	@$(STAGE) 'trust list' $(MAKE) trust
 	@tests/gate/proofs $(PROOFS)
+	@$(STAGE) 'first errors' $(MAKE) edits
 	@$(STAGE) 'library' $(MAKE) lib
 	@$(STAGE) 'Rust side' $(MAKE) rust LIB=
 	@$(STAGE) 'C calls' $(MAKE) c-test LIB=
@@ -129,6 +130,11 @@ order-test: cli
 
 proofs:
 	$(PROOFS)
+
+# Why each must-fail edit was refused, by the logs of the last `rt ci` or `rt must-fail`.
+edits:
+	tests/gate/edits --self-test
+	tests/gate/edits
 
 # Warns of other versions.
 toolchain:
