@@ -23,8 +23,7 @@ use Rattle.trace.proofs.Theorems.{theorems}
 use Rattle.table.proofs.Checks.{then-right}
 use Rattle.model.specs.Site.{Site, name, initial}
 use Rattle.model.specs.Step.{actionAt, nextName, ready}
-use Rattle.model.specs.Ready.{bit, ReadyAnswer, readyMask, readyAnswer}
-use Rattle.model.specs.ReadyMask.{bitOf}
+use Rattle.model.specs.Ready.{bitOf, bit, ReadyAnswer, readyMask, readyAnswer}
 use Rattle.model.specs.Pair.{depends}
 use Rattle.model.specs.Report.{report}
 use Rattle.model.specs.Schedule.{machine, endState, firstNumbers, secondNumbers, checkSchedule}

@@ -14,8 +14,8 @@ use Rattle.table.specs.Format.{actorsOf}
 use Rattle.trace.proofs.Bools.{which}
 use Rattle.model.specs.Site.{Site}
 use Rattle.model.specs.Step.{ready}
-use Rattle.model.specs.Ready.{bit, maskOf, howMany}
-use Rattle.model.specs.ReadyMask.{bitOf, MaskRight}
+use Rattle.model.specs.Ready.{bitOf, bit, maskOf, howMany}
+use Rattle.model.specs.ReadyMask.{MaskRight}
 
 -- ---- a lowest bit and the rest
 

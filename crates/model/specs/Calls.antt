@@ -90,7 +90,6 @@ abbrev pub sameChecks : List ℕ → List ℕ → List ℕ → Outcome
 sameChecks table first second =
     readOf table ⨾ checkSchedule firstNumbers table first ⨾ checkSchedule secondNumbers table second
 
--- the verdict
 unfoldable pub sameOf : (table first second : List ℕ) → Result SameVerdict
 sameOf table first second = answer (sameChecks table first second) (cond (equivalent (machine table) initial first second) same different)
 

@@ -16,8 +16,7 @@ use Rattle.trace.specs.Chain.{Exchange, Chain, Chained, replay}
 use Rattle.trace.specs.Order.{has}
 use Rattle.model.specs.Site.{name, initial}
 use Rattle.model.specs.Step.{nextName, nextAction}
-use Rattle.model.specs.Ready.{ReadyAnswer}
-use Rattle.model.specs.ReadyMask.{bitOf}
+use Rattle.model.specs.Ready.{bitOf, ReadyAnswer}
 use Rattle.model.specs.Report.{report}
 use Rattle.model.specs.Schedule.{machine, endState}
 use Rattle.model.specs.Calls.{Result, gives, runOf, readyOf, pairOf, independent, SameVerdict, same, different, Comparison, comparisonOf}

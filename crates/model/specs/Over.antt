@@ -15,8 +15,7 @@ use Rattle.trace.specs.Chain.{Chain, replay}
 use Rattle.trace.specs.Order.{has}
 use Rattle.model.specs.Site.{initial}
 use Rattle.model.specs.Step.{nextName, nextAction}
-use Rattle.model.specs.Ready.{stuck, ReadyAnswer}
-use Rattle.model.specs.ReadyMask.{bitOf}
+use Rattle.model.specs.Ready.{bitOf, stuck, ReadyAnswer}
 use Rattle.model.specs.Schedule.{machine, endState, RefusalNumbers, checkSchedule}
 use Rattle.model.specs.Calls.{gives, refuses, runOf, readyOf, comparisonOf}
 use Rattle.model.specs.Page.{over, statusOf, pageOf}

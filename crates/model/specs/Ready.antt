@@ -1,6 +1,6 @@
 -- The ending, and the ready answer: the mask, how many actors are ready, and the ending.
 -- Assumes nothing: these are definitions.
-use Prim.Native.Nat.{ℕ, zero, suc, _+_, _*_}
+use Prim.Native.Nat.{ℕ, zero, suc, _+_, _*_, _/_, _%_, _^_}
 use mathlib.Core.Bool.{Bool, true, not, _&&_, cond}
 use mathlib.Core.List.{List}
 use lib.Dec.{eqb}
@@ -10,6 +10,10 @@ use Rattle.model.specs.Step.{unfinished, ready}
 
 abbrev pub bit : Bool → ℕ
 bit b = cond b 1 0
+
+-- bit i of a mask, the lowest being bit 0
+abbrev pub bitOf : (mask i : ℕ) → ℕ
+bitOf mask i = mask / 2 ^ i % 2
 
 -- of the tests `f k`, `f (k + 1)`, .., `n` of them: the number whose bit i, the lowest being 0, is the i-th; how many hold; whether all do
 abbrev pub maskOf : (ℕ → Bool) → ℕ → ℕ → ℕ

@@ -17,8 +17,7 @@ use Rattle.trace.proofs.Run.{inv-final}
 use Rattle.model.specs.Site.{Site, initial}
 use Rattle.model.specs.Views.{posts}
 use Rattle.model.specs.Step.{ready, step}
-use Rattle.model.specs.Ready.{readyMask, readyCount}
-use Rattle.model.specs.ReadyMask.{bitOf}
+use Rattle.model.specs.Ready.{bitOf, readyMask, readyCount}
 use Rattle.model.specs.Schedule.{machine}
 use Rattle.model.specs.Scheduler.{Rule, scheduleRoom, turnOf, entriesFrom, madeFrom}
 use Rattle.model.proofs.Invariant.{inv-initial, own-position}

@@ -16,8 +16,7 @@ use Rattle.table.specs.declared.Action.{Action}
 use Rattle.table.specs.Format.{actorsOf, countOf}
 use Rattle.model.specs.Site.{Site}
 use Rattle.model.specs.Step.{NextStep, isTaken, stepOf, nextStep, ready}
-use Rattle.model.specs.Ready.{bit, maskOf, all, endingOf, readyMask, readyCount, readyAnswer}
-use Rattle.model.specs.ReadyMask.{bitOf}
+use Rattle.model.specs.Ready.{bitOf, bit, maskOf, all, endingOf, readyMask, readyCount, readyAnswer}
 use Rattle.model.proofs.ReadyMask.{mask-small, mask-right}
 use Rattle.state.specs.State.{mailOf, queuesOf, freshActor, nextOf, seenFrom}
 use Rattle.readiness.specs.Parts.{siteWith, Known, stepFrom, looksReady, everyoneFinished}

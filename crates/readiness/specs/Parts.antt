@@ -12,7 +12,6 @@ use Rattle.table.specs.Promise.{WellFormed}
 use Rattle.model.specs.Site.{Site}
 use Rattle.model.specs.Step.{NextStep, isTaken, stepOf, ready}
 use Rattle.model.specs.Ready as Model
-use Rattle.model.specs.ReadyMask.{bitOf}
 use Rattle.state.specs.State.{mailOf, queuesOf, siteOf, freshActor, CommsRoom, QueueRoom, EightCells, nextOf, seenFrom}
 use Rattle.state.specs.declared.Actor.{Actor}
 
@@ -38,7 +37,7 @@ pub record Answerable (table : List ℕ) (actors : List Actor) (comms queues : L
 -- the actors of a mask are ready, but for actor a
 abbrev pub Known : List ℕ → (mask a : ℕ) → List Actor → (comms queues : List ℕ) → Type 0
 Known table mask a actors comms queues =
-    (i : ℕ) → bitOf mask i ≡ 1 → i ≢ a → (log ends journal : List ℕ) → ready table (siteWith actors comms queues log ends journal) i ≡ true
+    (i : ℕ) → Model.bitOf mask i ≡ 1 → i ≢ a → (log ends journal : List ℕ) → ready table (siteWith actors comms queues log ends journal) i ≡ true
 
 -- what the next step of an actor with the record r is
 abbrev pub stepFrom : List ℕ → ℕ → Actor → (comms queues log ends : List ℕ) → NextStep
