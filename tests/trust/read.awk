@@ -155,7 +155,7 @@ inside && /^[ \t]*([a-z].* )?fn / { call_fault("a contract without an end: " cal
     inside = 1; contract = 0
 }
 inside {
-    if (/^[ \t]*(requires|ensures|ghost)([ \t{]|$)/) contract = 1
+    if (/^[ \t]*(requires|ensures)/) contract = 1
     if (/^[ \t]*requires/) asks[calls] = 1
     if (/^[ \t]*ensures/) promises[calls] = 1
     if (/⟦|⟧/ || index(words($0), " ghost ")) call_fault("a public contract has a bracket or a ghost value: " place)
