@@ -3,7 +3,7 @@
 -- `PairCases`: the pair verdict is document 01's four cases and document 02's fifth;
 -- `ReadyMask`: the mask's bits and ones;
 -- `Demand3`: demand 3, of every table that the reader accepts;
--- `Refusals`: a refused run or page changes nothing lent;
+-- `Refusals`: a refused run, page or draw changes nothing lent;
 -- `Reached`: what holds of every state that an accepted schedule reaches, from any start that has it;
 -- `ReportBound`: no report passes the table's bound, nor 4,514 bytes;
 -- `Determined`: two states are equal when their reports are;
@@ -14,6 +14,7 @@
 -- `Over`: a step whose total would run over never becomes ready, and exchanged schedules meet it at the same entry;
 -- `RecordingLaws`: two recordings compared as far as both reach; the longer goes on from the shorter one's end;
 -- `ComparisonLaws`: the number of pairs compared tells the pair that ended the search;
+-- `Drawn`: the schedule that a seed determines, and what the call leaves of it;
 -- `Routes`: the route call's promise can be kept;
 -- `Beginnings`: a listing goes by the beginnings of its files alone.
 pub mod Upd

@@ -26,8 +26,8 @@ pub record Scheduled (rule : Rule) (table : List ℕ) (start : ℕ) : Type 0 whe
 
 -- the same, told by the calls: a maker that answers n has left the schedule in the first n entries lent to it, and for these the call ready gives an
 -- answer, finished or stuck
-pub record Told (table schedule : List ℕ) (left : Filled) (n : ℕ) : Type 0 where
-  pub entries : take n (left .lent) ≡ schedule
+pub record Told (table schedule : List ℕ) (filled : Filled) (n : ℕ) : Type 0 where
+  pub entries : take n (filled .lent) ≡ schedule
   pub now : ReadyAnswer
-  pub readies : readyOf table (take n (left .lent)) ≡ gives now
+  pub readies : readyOf table (take n (filled .lent)) ≡ gives now
   pub ended : (now .ending ≡ finished) ⊎ (now .ending ≡ stuck)
