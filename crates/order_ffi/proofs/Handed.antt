@@ -4,7 +4,7 @@ use Prim.Native.Nat.{ℕ, _-_, _≤_, _<_}
 use native.Mathlib.Omega.{arith}
 use mathlib.Core.Path.{_≡_, ap, _∙_}
 use borrow.Author.Tests.{lt-ltb, le-ltb}
-use lib.ListN.{length, take, drop, length-take, length-drop}
+use lib.ListN.{length, length-take, length-drop}
 use Rattle.model.specs.Recordings.{Slice, remainderOf, remainderIn}
 use Rattle.answers.specs.declared.Recording.the-variants.{First, Second}
 use Rattle.answers.specs.declared.Part.{Part}
@@ -12,17 +12,17 @@ use Rattle.answers.specs.Answers.{partOf}
 
 -- ---- its length
 
-size : Slice → ℕ
+abbrev size : Slice → ℕ
 size s = length (s .bytes)
 
 module _ {r : Slice} (a b : Slice) (handed : r ≡ remainderIn a b) where
-  pub length-of-second : length (a .bytes) < length (b .bytes) → length (r .bytes) ≡ length (b .bytes) - length (a .bytes)
-  unfolding remainderIn size
+  pub length-of-second : size a < size b → size r ≡ size b - size a
+  unfolding remainderIn
   length-of-second l =
       ap size handed ∙ rw (lt-ltb _ _ l) (simp (length-take, length-drop) (omega arith))
 
-  pub length-of-first : length (b .bytes) ≤ length (a .bytes) → length (r .bytes) ≡ length (a .bytes) - length (b .bytes)
-  unfolding remainderIn size
+  pub length-of-first : size b ≤ size a → size r ≡ size a - size b
+  unfolding remainderIn
   length-of-first l =
       ap size handed ∙ rw (le-ltb _ _ l) (simp (length-take, length-drop) (omega arith))
 

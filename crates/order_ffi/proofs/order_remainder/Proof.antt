@@ -38,10 +38,14 @@ remainder-requires-3 : tie.Need-remainder-requires-3
 remainder-requires-3 c κs = search needs
 
 returns : tie.Need-returns
-returns c = c .remainder2 .ensures ∙ ap remainderFields (end-of-second _ _ _ (c .before .if1 .taken) (of-second (c .before)))
+returns c =
+    c .remainder2 .ensures
+    ∙ ap remainderFields (end-of-second _ _ _ (c .before .if1 .taken) (of-second (c .before)))
 
 returns-2 : tie.Need-returns-2
-returns-2 c = c .remainder3 .ensures ∙ ap remainderFields (end-of-first _ _ _ (c .before .if1 .left) (of-first (c .before)))
+returns-2 c =
+    c .remainder3 .ensures
+    ∙ ap remainderFields (end-of-first _ _ _ (c .before .if1 .left) (of-first (c .before)))
 
 pub order-remainder-spec : {M : Type 1} → statement M
 order-remainder-spec =
