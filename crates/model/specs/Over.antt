@@ -35,10 +35,11 @@ module _ (table : List ℕ) where
   abbrev pub Unfinished : List ℕ → ℕ → Type 0
   Unfinished p a = (a < actorsOf table) × (endState table p .actor a .position < countOf table a)
 
-  -- and its next action is an Add whose sum would pass 4,294,967,295
+  -- an actor of the table is not finished, and its next action is an Add whose sum would pass 4,294,967,295
   abbrev pub WouldPass : List ℕ → ℕ → Type 0
   WouldPass p a =
-      (cell : ℕ) × (other : ℕ) × Unfinished p a × (nextAction table (endState table p) a ≡ Add cell other) × (4294967295 < getD (cellsAt p a) cell 0 + getD (cellsAt p a) other 0)
+      (cell : ℕ) × (other : ℕ) × Unfinished p a × (nextAction table (endState table p) a ≡ Add cell other)
+      × (4294967295 < getD (cellsAt p a) cell 0 + getD (cellsAt p a) other 0)
 
 -- an actor that is over, as the calls show it: "its bit in the mask is 0, the page shows `over`"
 pub record ShownOver (table p : List ℕ) (a : ℕ) (now : ReadyAnswer) : Type 0 where
@@ -75,6 +76,7 @@ pub record Over (table : List ℕ) : Type 0 where
   -- and so is 22, of the second of two schedules
   pub exactly-second : (first p : List ℕ) (a : ℕ) → Accepted table first → Accepted table p
       → (comparisonOf table first (p ++ (a ∷ [])) ≡ refuses 22 (length p)) ↔ WouldPass table p a
+  -- at the schedule itself
   pub shown : (p : List ℕ) (a : ℕ) (now : ReadyAnswer) → OverAfter table p a → readyOf table p ≡ gives now → ShownOver table p a now
   -- "a site with only such steps left is stuck": somebody is not finished, and everybody who is not finished is over
   pub only-over : (p : List ℕ) (u : ℕ) → Accepted table p → Unfinished table p u → ((a : ℕ) → Unfinished table p a → OverAfter table p a)
