@@ -40,7 +40,7 @@ module _ (f : ℕ → ℕ → Bool) where
 
   row-ended : (j i n : ℕ) → searchRow f j i (ended n) ≡ ended n
   row-ended j zero n = refl
-  row-ended j (suc i) n = ap (compare (f i j)) (row-ended j i n)
+  row-ended j (suc i) n = rw (row-ended j i n)
 
   pub row-none : (j i n : ℕ) → ((k : ℕ) → k < i → f k j ≡ false) → searchRow f j i (going n) ≡ going (n + i)
   row-none j zero n none = ap going (sym (add-zero n))
