@@ -3,12 +3,11 @@
 ghost use Rattle.std.specs.Prelude.{◌∷◌, ℕ, ◌<◌, ◌≤◌, ◌^◌, length, get_or};
 ghost use Rattle.table.specs.Format.{count_of};
 ghost use Rattle.model.specs.Report.{long, parts, actor_bytes, comm_bytes};
-ghost use Rattle.state.specs.Packed.{comm_of};
-ghost use Rattle.state.specs.State.{record_of, CommsRoom, Positions};
+ghost use Rattle.state.specs.State.{record_of, comm_of, CommsRoom, Positions};
 ghost use Rattle.writing.specs.Written.{Wrote};
 ghost use Rattle.actor_sections.specs.Parts.{actors_bytes, own_bytes, actions_bytes};
 
-use state::{Actor, Actors, Comms, Communication, packed};
+use state::Actor;
 use table::access;
 
 // An actor's cells, four bytes each.
@@ -38,7 +37,7 @@ fn actor_part(r: Actor, buf: &mut [u8]) -> usize
 }
 
 // The actors.
-pub fn actors_part(actors: Actors, count: usize, buf: &mut [u8]) -> usize
+pub fn actors_part(actors: [Actor; 8], count: usize, buf: &mut [u8]) -> usize
     requires { (count ≤ 8) × Positions actors × (length (actors_bytes actors count) ≤ length buf.old) }
     ensures { Wrote buf.old (actors_bytes actors count) buf.new result }
 {
@@ -66,31 +65,27 @@ fn comm_part(c: u64, buf: &mut [u8]) -> usize
     requires { (c < 2 ^ 42) × (8 ≤ length buf.old) }
     ensures { Wrote buf.old (comm_bytes (comm_of c)) buf.new result }
 {
-    let comm = packed::posted(c);
-    match comm {
-        Communication::Unposted => entry(0, 0, 0, 0, buf),
-        Communication::Pending(value) => entry(1, 0, 0, value, buf),
-        Communication::Done { partner, value } => {
-            entry(
-                2,
-                names::actor(partner) as u8,
-                names::action(partner) as u8,
-                value,
-                buf,
-            )
-        }
+    let state = c % 4;
+    if state == 0 {
+        return entry(0, 0, 0, 0, buf);
     }
+    let value = (c / 1024) as u32;
+    if state == 1 {
+        return entry(1, 0, 0, value, buf);
+    }
+    let partner = c / 4 % 256;
+    entry(2, (partner / 32) as u8, (partner % 32) as u8, value, buf)
 }
 
 // One actor's actions.
-fn own_part(comms: &Comms, actor: usize, count: usize, buf: &mut [u8]) -> usize
+fn own_part(comms: &[u64; 256], actor: usize, count: usize, buf: &mut [u8]) -> usize
     requires { CommsRoom comms.now × (actor < 8) × (count ≤ 32) × (length (own_bytes comms.now actor count) ≤ length buf.old) }
     ensures { Wrote buf.old (own_bytes comms.now actor count) buf.new result }
 {
     let mut at = 0;
     let mut k = 0;
     while k < count {
-        let c = comms[names::packed(actor, k)];
+        let c = comms[32 * actor + k];
         at += comm_part(c, &mut buf[at..]);
         k += 1;
     }
@@ -98,7 +93,7 @@ fn own_part(comms: &Comms, actor: usize, count: usize, buf: &mut [u8]) -> usize
 }
 
 // The actions of each actor.
-pub fn actions_part(table: &[u8], comms: &Comms, actors: usize, buf: &mut [u8]) -> usize
+pub fn actions_part(table: &[u8], comms: &[u64; 256], actors: usize, buf: &mut [u8]) -> usize
     requires { CommsRoom comms.now × (actors ≤ 8) × ((a : ℕ) → a < actors → count_of table.now a ≤ 32)
         × (length (actions_bytes table.now comms.now actors) ≤ length buf.old) }
     ensures { Wrote buf.old (actions_bytes table.now comms.now actors) buf.new result }

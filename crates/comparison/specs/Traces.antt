@@ -8,7 +8,6 @@ use Rattle.trace.specs.Schedule.{names}
 use Rattle.model.specs.Site.{initial}
 use Rattle.model.specs.Schedule.{machine, RefusalNumbers, first_numbers, second_numbers, check_schedule}
 use Rattle.model.specs.Calls.{comparison_of}
-use Rattle.state.specs.Arrays.{steps, log_length, journal_length}
 use Rattle.play.specs.Parts.{halt_of}
 use Rattle.play.specs.declared.Halt.{Halt}
 use Rattle.play.specs.declared.Halt.TheVariants.{End}
@@ -19,14 +18,14 @@ use Rattle.answers.specs.Answers.{same_result}
 
 -- the names of the steps that an accepted schedule runs stand in the first bytes, in their order
 pub record Kept (table schedule bytes : List ℕ) : Type 0 where
-  pub entries-most : length schedule ≤ steps
-  pub bytes-long : length bytes ≡ steps
+  pub entries-most : length schedule ≤ 256
+  pub bytes-long : length bytes ≡ 256
   pub names-right : names_in (length schedule) bytes ≡ names (machine table) initial schedule
 
 -- the arrays that one schedule hands on to the next: what they hold plays no part
 pub record Handed (log journal : List ℕ) : Type 0 where
-  pub log-long : length log ≡ log_length
-  pub journal-long : length journal ≡ journal_length
+  pub log-long : length log ≡ 4096
+  pub journal-long : length journal ≡ 257
 
 -- a schedule halts where its checks refuse it, and at its end its names are kept, and the arrays can be handed on
 pub record Traced (table schedule log journal bytes : List ℕ) (halt : Halt) : Type 0 where
@@ -41,7 +40,7 @@ pub record Following (table first log journal first_bytes second_bytes : List �
   pub first_fine : check_schedule first_numbers table first ≡ accepted
   pub first-kept : Kept table first first_bytes
   pub arrays : Handed log journal
-  pub room : length second_bytes ≡ steps
+  pub room : length second_bytes ≡ 256
 
 -- the table and both schedules are accepted
 pub record Judged (table first second first_bytes second_bytes : List ℕ) : Type 0 where

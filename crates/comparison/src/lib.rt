@@ -1,14 +1,10 @@
 // What the calls on two schedules share: each schedule is stepped from a fresh site, and only the names of its steps are kept.
 ghost use Rattle.std.specs.Prelude.{◌≡◌, length};
 ghost use Rattle.table.specs.Promise.{WellFormed};
-ghost use Rattle.state.specs.Arrays.{steps};
 ghost use Rattle.comparison.specs.Traces.{Handed, Traced, Following, Judged, ComparedRight};
 
 use answers::{Refusal, SameAnswer};
-use lead::Lead;
-use names::{Names, STEPS};
 use play::Halt;
-use state::{ENDS, JOURNAL, Journal, LOG, Log, QUEUES};
 use table::Reading;
 
 // Reads the table, steps the first schedule whole and then the second, and judges. `names` and `others` are left with the names of the
@@ -17,18 +13,18 @@ pub fn compared(
     table: &[u8],
     first: &[u8],
     second: &[u8],
-    names: &mut Names,
-    others: &mut Names,
+    names: &mut [u8; 256],
+    others: &mut [u8; 256],
 ) -> SameAnswer
-    requires { (length names.old ≡ steps) × (length others.old ≡ steps) }
+    requires { (length names.old ≡ 256) × (length others.old ≡ 256) }
     ensures { ComparedRight table.now first.now second.now names.new others.new result }
 {
     let reading = reader::read(table);
     let Reading::Valid = reading else {
         return SameAnswer::Refused(Refusal::Table(reading));
     };
-    let mut log = [0u8; LOG];
-    let mut journal = [0usize; JOURNAL];
+    let mut log = [0u8; 4096];
+    let mut journal = [0usize; 257];
     let halt = trace_of(table, first, &mut log, &mut journal, names);
     match halt {
         Halt::End => follow(table, first, second, &mut log, &mut journal, names, others),
@@ -41,10 +37,10 @@ fn follow(
     table: &[u8],
     first: &[u8],
     second: &[u8],
-    log: &mut Log,
-    journal: &mut Journal,
-    names: &Names,
-    others: &mut Names,
+    log: &mut [u8; 4096],
+    journal: &mut [usize; 257],
+    names: &[u8; 256],
+    others: &mut [u8; 256],
 ) -> SameAnswer
     requires { Following table.now first.now log.old journal.old names.now others.old }
     ensures { ComparedRight table.now first.now second.now names.now others.new result }
@@ -57,7 +53,13 @@ fn follow(
 }
 
 // The verdict on two accepted schedules, by their lengths and the names of their steps, and how many pairs of these were compared.
-fn judge(table: &[u8], first: &[u8], second: &[u8], names: &Names, others: &Names) -> SameAnswer
+fn judge(
+    table: &[u8],
+    first: &[u8],
+    second: &[u8],
+    names: &[u8; 256],
+    others: &[u8; 256],
+) -> SameAnswer
     requires { Judged table.now first.now second.now names.now others.now }
     ensures { ComparedRight table.now first.now second.now names.now others.now result }
 {
@@ -77,21 +79,20 @@ fn judge(table: &[u8], first: &[u8], second: &[u8], names: &Names, others: &Name
 fn trace_of(
     table: &[u8],
     schedule: &[u8],
-    log: &mut Log,
-    journal: &mut Journal,
-    names: &mut Names,
+    log: &mut [u8; 4096],
+    journal: &mut [usize; 257],
+    names: &mut [u8; 256],
 ) -> Halt
-    requires { WellFormed table.now × Handed log.old journal.old × (length names.old ≡ steps) }
+    requires { WellFormed table.now × Handed log.old journal.old × (length names.old ≡ 256) }
     ensures { Traced table.now schedule.now log.new journal.new names.new result }
 {
-    let mut comms = [0u64; STEPS];
-    let mut ends = [0usize; ENDS];
-    let mut queues = [0u8; QUEUES];
+    let mut comms = [0u64; 256];
+    let mut ends = [0usize; 32];
+    let mut queues = [0u8; 72];
     journal[0] = 0;
     let played = play::play(
         table,
         schedule,
-        Lead::Lent,
         &mut comms,
         log,
         &mut ends,

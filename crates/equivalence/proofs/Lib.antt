@@ -1,5 +1,4 @@
 -- The proofs of this crate that belong to no one function.
-pub mod Unpacked
 pub mod Below
 pub mod Locate
 pub mod Places

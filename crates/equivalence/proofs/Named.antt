@@ -1,6 +1,6 @@
 -- The places of the first list's names in the second: all of them found means that the second has each of the first's names.
 -- Assumes nothing.
-use Prim.Native.Nat.{ℕ, ◌<◌, ◌≤◌}
+use Prim.Native.Nat.{ℕ, ◌/◌, ◌<◌, ◌≤◌}
 use native.Mathlib.Omega.{arith}
 use mathlib.Core.Path.{◌≡◌, sym, ◌∙◌}
 use mathlib.Core.Logic.{◌⊎◌, inl, inr}
@@ -25,7 +25,7 @@ module _ (table first second : List ℕ) (m : ℕ) (compared : Compared table fi
   -- a step's name fits a byte
   small : (i : ℕ) → i < m → get_or first i 0 < 256
   small i h =
-      let actor : (name_of (get_or first i 0)).actor < 8 = omega (arith, (compared.stand i h).0, compared.accepted.actors-most) in
+      let actor : get_or first i 0 / 32 < 8 = omega (arith, (compared.stand i h).0, compared.accepted.actors-most) in
       omega arith
 
   fits : m ≤ length second

@@ -10,7 +10,6 @@ use mathlib.Core.List.{List}
 use borrow.Author.Tests.{lt-ltb, le-ltb, ltb-true, ltb-false}
 use lib.Dec.{ltb}
 use lib.ListN.{get_or, replicate, length-replicate}
-use Rattle.trace.specs.Machine.{Name}
 use Rattle.trace.specs.Search.{going, ended, search_row}
 use Rattle.trace.proofs.Bools.{which, contrary}
 use Rattle.trace.proofs.Searched.{row-none, row-finds, search-stays}
@@ -59,11 +58,11 @@ module _ (table first places : List ℕ) (m : ℕ) where
       }
 
   module _ (placed : Placed table first places m) {posts looks : List ℕ} {pairs j : ℕ} (known : Searching posts looks pairs j) (here : j < m)
-      {x : Name} {met : ℕ} {posts' looks' : List ℕ} (named : x ≡ name_of (get_or first j 0))
-      (passed : Passed table x (get_or places j 0) posts looks posts' looks' met) where
+      {n met : ℕ} {posts' looks' : List ℕ} (named : n ≡ get_or first j 0)
+      (passed : Passed table (name_of n) (get_or places j 0) posts looks posts' looks' met) where
     test : ltb (get_or places j 0) met ≡ any_below (λ i. crosses table first places i j) j
     test =
-        ap (ltb (get_or places j 0)) (passed.met ∙ ap (λ (y : Name). latest_met table y posts looks) named)
+        ap (ltb (get_or places j 0)) (passed.met ∙ ap (λ (b : ℕ). latest_met table (name_of b) posts looks) named)
         ∙ crossing-test table first places posts looks j known.before known.seen m placed here
 
     -- ---- no earlier step is crossed
@@ -72,7 +71,7 @@ module _ (table first places : List ℕ) (m : ℕ) where
     search-next later =
         record {
           most = omega arith;
-          rooms = passed-rooms table x known.rooms passed;
+          rooms = passed-rooms table (name_of n) known.rooms passed;
           before = rw add-one (subst (λ (l : List ℕ). PostsBefore table first places l (suc j)) (sym posts-are) posts-next);
           seen = rw add-one (subst (λ (l : List ℕ). LooksBefore table first places l (suc j)) (sym looks-are) looks-next);
           so_far = rw add-one (ap (search_row (crosses table first places) j j) known.so_far ∙ row-none (crosses table first places) j j pairs none);
@@ -83,10 +82,10 @@ module _ (table first places : List ℕ) (m : ℕ) where
         none = below_none (λ i. crosses table first places i j) j (sym test ∙ le-ltb (get_or places j 0) met later)
 
         posts-are : posts' ≡ raised (get_or places j 0) (posted table (name_of (get_or first j 0))) posts
-        posts-are = passed.posts-raised ∙ ap (λ (y : Name). raised (get_or places j 0) (posted table y) posts) named
+        posts-are = passed.posts-raised ∙ ap (λ (b : ℕ). raised (get_or places j 0) (posted table (name_of b)) posts) named
 
         looks-are : looks' ≡ raised (get_or places j 0) (looked table (name_of (get_or first j 0))) looks
-        looks-are = passed.looks-raised ∙ ap (λ (y : Name). raised (get_or places j 0) (looked table y) looks) named
+        looks-are = passed.looks-raised ∙ ap (λ (b : ℕ). raised (get_or places j 0) (looked table (name_of b)) looks) named
 
         posts-next : PostsBefore table first places (raised (get_or places j 0) (posted table (name_of (get_or first j 0))) posts) (suc j)
         posts-next =

@@ -6,7 +6,6 @@ ghost use Rattle.equivalence.specs.Compared.{Compared};
 ghost use Rattle.equivalence.specs.Judged.{Judges};
 ghost use Rattle.equivalence.specs.Parts.{Indexed, Located, Placed, crosses, search_of, FirstOf, Found};
 
-use names::Names;
 use table::bytes;
 
 // A verdict on two lists of step names, and how many pairs of steps were compared.
@@ -18,7 +17,7 @@ pub struct Comparison {
 
 // Whether the second list of m step names is the first's trace in another order: it has the first's names, and runs no dependent pair in
 // the opposite order. All names are looked up before any pair is compared.
-pub fn same(table: &[u8], first: &Names, second: &Names, m: usize) -> Comparison
+pub fn same(table: &[u8], first: &[u8; 256], second: &[u8; 256], m: usize) -> Comparison
     requires { Compared table.now first.now second.now m }
     ensures { Judges (depends table.now) (names_in m first.now) (names_in m second.now) result }
 {
@@ -35,7 +34,7 @@ pub fn same(table: &[u8], first: &Names, second: &Names, m: usize) -> Comparison
 }
 
 // For each name its place among the first m of the second list; 256 stays where it has none.
-fn indexed(second: &Names, m: usize, index: &mut [u16; 256])
+fn indexed(second: &[u8; 256], m: usize, index: &mut [u16; 256])
     requires { (length second.now ≡ 256) × (m ≤ 256) × (index.old ≡ replicate 256 256) }
     ensures { Indexed second.now m index.new }
 {
@@ -48,7 +47,7 @@ fn indexed(second: &Names, m: usize, index: &mut [u16; 256])
 }
 
 // The place of each of the first list's m names in the second; false where one has none.
-fn located(first: &Names, index: &[u16; 256], m: usize, places: &mut [u16; 256]) -> bool
+fn located(first: &[u8; 256], index: &[u16; 256], m: usize, places: &mut [u16; 256]) -> bool
     requires { (length first.now ≡ 256) × (length index.now ≡ 256) × (m ≤ 256) × (length places.old ≡ 256) }
     ensures { Located first.now index.now m places.new result }
 {
@@ -68,7 +67,7 @@ fn located(first: &Names, index: &[u16; 256], m: usize, places: &mut [u16; 256])
 // The search through the pairs of the first list's steps: by rising later step, then rising earlier step, up to the first two that are dependent and have
 // places in the opposite order. Pairs are counted as if each was compared. Step by step only the latest places that the step must not come before are
 // looked at, and where one is later than its own, the earliest step that it crosses is looked for.
-fn searched(table: &[u8], first: &Names, places: &[u16; 256], m: usize) -> Comparison
+fn searched(table: &[u8], first: &[u8; 256], places: &[u16; 256], m: usize) -> Comparison
     requires { Placed table.now first.now places.now m }
     ensures { Found (search_of table.now first.now places.now m) result }
 {
@@ -79,14 +78,7 @@ fn searched(table: &[u8], first: &Names, places: &[u16; 256], m: usize) -> Compa
     while j < m {
         let name = bytes::wide(first[j]);
         let place = places[j];
-        let met = footprint::pass(
-            table,
-            names::actor(name),
-            names::action(name),
-            place,
-            &mut posts,
-            &mut looks,
-        );
+        let met = footprint::pass(table, name / 32, name % 32, place, &mut posts, &mut looks);
         if place < met {
             let i = earliest(table, first, places, j);
             return Comparison {
@@ -104,7 +96,7 @@ fn searched(table: &[u8], first: &Names, places: &[u16; 256], m: usize) -> Compa
 }
 
 // The earliest step that step j crosses; j where there is none.
-fn earliest(table: &[u8], first: &Names, places: &[u16; 256], j: usize) -> usize
+fn earliest(table: &[u8], first: &[u8; 256], places: &[u16; 256], j: usize) -> usize
     requires { Placed table.now first.now places.now (suc j) }
     ensures { FirstOf (λ i. crosses table.now first.now places.now i j) j result }
 {
@@ -119,20 +111,14 @@ fn earliest(table: &[u8], first: &Names, places: &[u16; 256], j: usize) -> usize
 }
 
 // Whether the steps i and j are dependent and have places in the opposite order.
-fn cross(table: &[u8], first: &Names, places: &[u16; 256], i: usize, j: usize) -> bool
+fn cross(table: &[u8], first: &[u8; 256], places: &[u16; 256], i: usize, j: usize) -> bool
     requires { Placed table.now first.now places.now (suc j) × (i < j) }
     ensures { result ≡ crosses table.now first.now places.now i j }
 {
     if places[j] < places[i] {
         let x = bytes::wide(first[i]);
         let y = bytes::wide(first[j]);
-        return dependence::dependent(
-            table,
-            names::actor(x),
-            names::action(x),
-            names::actor(y),
-            names::action(y),
-        );
+        return dependence::dependent(table, x / 32, x % 32, y / 32, y % 32);
     }
     false
 }

@@ -2,28 +2,21 @@
 -- Assumes nothing: these are definitions.
 use Rattle.std.specs.Prelude.{ℕ, ◌≡◌, List}
 use Rattle.table.specs.Outcome.{accepted, refused, number_of, position_of}
-use Rattle.table.specs.Read.{read_of}
 use Rattle.table.specs.Promise.{WellFormed}
 use Rattle.model.specs.Calls.{ready_checks}
 use Rattle.answers.specs.declared.Refusal.{Refusal}
 use Rattle.answers.specs.Answers.{refusal_of}
 use Rattle.state.specs.declared.Actor.{Actor}
-use Rattle.state.specs.Arrays.{Arrays}
-use Rattle.play.specs.Parts.{Fresh, Ended}
+use Rattle.play.specs.Parts.{Ended}
 use Rattle.execution.specs.declared.Course.TheVariants.{End, Refused}
 use Rattle.execution.specs.declared.Execution.{Execution}
 
--- a table that was read and accepted, and arrays that hold a fresh site
-pub record Opened (table : List ℕ) (s : Arrays) (names' : List ℕ) : Type 0 where
-  pub read : read_of table ≡ accepted
-  pub fresh : Fresh table s names'
-
 -- the table and the schedule are accepted, and the arrays hold the end state
-pub record AtEnd (table schedule : List ℕ) (s : Arrays) (names' : List ℕ) (actors : List Actor) : Type 0 where
+pub record AtEnd (table schedule comms log ends queues journal names' : List ℕ) (actors : List Actor) : Type 0 where
   pub promise : WellFormed table
   pub checked : ready_checks table schedule ≡ accepted
-  pub end : Ended table schedule s names' actors
+  pub end : Ended table schedule comms log ends queues journal names' actors
 
-pub record Executed (table schedule : List ℕ) (s : Arrays) (names' : List ℕ) (r : Execution) : Type 0 where
+pub record Executed (table schedule comms log ends queues journal names' : List ℕ) (r : Execution) : Type 0 where
   pub refusal : (x : Refusal) → r.course ≡ Refused x → ready_checks table schedule ≡ refused (number_of (refusal_of x)) (position_of (refusal_of x))
-  pub ended : r.course ≡ End → AtEnd table schedule s names' r.actors
+  pub ended : r.course ≡ End → AtEnd table schedule comms log ends queues journal names' r.actors

@@ -1,14 +1,11 @@
 // An execution: the table read, and a schedule stepped from a fresh site. It ends in a state, held in arrays, or in a refusal.
 ghost use Rattle.std.specs.Prelude.{◌≡◌, length};
-ghost use Rattle.state.specs.Arrays.{steps, behind};
 ghost use Rattle.play.specs.Parts.{Empty};
-ghost use Rattle.execution.specs.Parts.{Opened, Executed};
+ghost use Rattle.execution.specs.Parts.{Executed};
 
 use answers::Refusal;
-use lead::Lead;
-use names::Names;
 use play::Halt;
-use state::{Actor, Actors, Comms, Ends, Journal, Log, Queues};
+use state::Actor;
 use table::Reading;
 
 // How far an execution comes: to the schedule's end, or to what is refused.
@@ -22,24 +19,23 @@ pub enum Course {
 #[derive(Drop)]
 pub struct Execution {
     pub course: Course,
-    pub actors: Actors,
+    pub actors: [Actor; 8],
 }
 
-// Reads the table and steps the schedule. The arrays come fresh, and hold the end state where the schedule's end is reached; `names` then holds the names
-// of the steps run.
+// The arrays come fresh, and hold the end state where the schedule's end is reached; `names` then holds the names of the steps run.
 pub fn execute(
     table: &[u8],
     schedule: &[u8],
-    comms: &mut Comms,
-    log: &mut Log,
-    ends: &mut Ends,
-    queues: &mut Queues,
-    journal: &mut Journal,
-    names: &mut Names,
+    comms: &mut [u64; 256],
+    log: &mut [u8; 4096],
+    ends: &mut [usize; 32],
+    queues: &mut [u8; 72],
+    journal: &mut [usize; 257],
+    names: &mut [u8; 256],
 ) -> Execution
-    requires { Empty (behind comms log ends queues journal) × (length names.old ≡ steps) }
-    ensures { Executed table.now schedule.now
-        (behind comms.exit log.exit ends.exit queues.exit journal.exit) names.new result }
+    requires { Empty comms.old log.old ends.old queues.old journal.old × (length names.old ≡ 256) }
+    ensures { Executed table.now schedule.now comms.new log.new ends.new
+        queues.new journal.new names.new result }
 {
     let reading = reader::read(table);
     let Reading::Valid = reading else {
@@ -49,35 +45,7 @@ pub fn execute(
             actors: [fresh; 8],
         };
     };
-    stepped(table, schedule, comms, log, ends, queues, journal, names)
-}
-
-// Steps a schedule of a table that was read: what a call refuses between the two stands before it.
-pub fn stepped(
-    table: &[u8],
-    schedule: &[u8],
-    comms: &mut Comms,
-    log: &mut Log,
-    ends: &mut Ends,
-    queues: &mut Queues,
-    journal: &mut Journal,
-    names: &mut Names,
-) -> Execution
-    requires { Opened table.now (behind comms log ends queues journal) names.old }
-    ensures { Executed table.now schedule.now
-        (behind comms.exit log.exit ends.exit queues.exit journal.exit) names.new result }
-{
-    let played = play::play(
-        table,
-        schedule,
-        Lead::Lent,
-        comms,
-        log,
-        ends,
-        queues,
-        journal,
-        names,
-    );
+    let played = play::play(table, schedule, comms, log, ends, queues, journal, names);
     let actors = played.actors;
     let halt = played.halt;
     match halt {

@@ -1,3 +1,2 @@
--- How schedules come about, and what is due.
-pub mod Ways
+-- What is due.
 pub mod Parts

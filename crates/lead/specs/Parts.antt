@@ -1,21 +1,18 @@
 -- What is due: the end of a schedule, or a turn.
 -- Assumes nothing: these are definitions.
-use Rattle.std.specs.Prelude.{◌≡◌, ℕ, ◌<◌, ◌≤◌, Bool, List, length, slice_index}
-use Rattle.model.specs.Ready.{mask_of}
-use Rattle.model.specs.Scheduler.{Rule}
-use Rattle.lead.specs.Ways.{Way, lent, made, way_of}
-use Rattle.lead.specs.declared.Turn.{Turn}
+use Rattle.std.specs.Prelude.{ℕ, ◌<◌, ◌≤◌, ◌≡◌, ◌⊎◌, Bool, true, false, List, length, get_or}
+use Rattle.model.specs.Views.{Post, silent, notes}
+use Rattle.policy.specs.Parts.{TurnRight}
+use Rattle.policy.specs.declared.Policy.{Policy}
 use Rattle.lead.specs.declared.Due.{Due}
 use Rattle.lead.specs.declared.Due.TheVariants as due
 
--- of whatever tests the mask is, the actor is the one that the rule chooses; and the same rule leads on, with what it then keeps
-pub record TurnRight (rule : Rule) (kept mask : ℕ) (t : Turn) : Type 0 where
-  pub chosen : (is_ready : ℕ → Bool) (actors : ℕ) → mask ≡ mask_of is_ready actors 0 → t.actor ≡ rule.chooses kept is_ready actors
-  pub leads-on : way_of t.lead ≡ made rule (rule.keeps kept t.actor)
+-- what is due at entry i: of a lent schedule its end, or the entry's actor; of a made one its end where the mask has nobody, or the policy's turn
+abbrev pub DueRight : (schedule : List ℕ) (i : ℕ) (made : Bool) (policy : Policy) (mask : ℕ) → Due → Type 0
+DueRight schedule i made policy mask due.End = (made ≡ false → length schedule ≤ i) × (made ≡ true → mask ≡ 0)
+DueRight schedule i made policy mask (due.Turn t) =
+    (made ≡ false → (i < length schedule) × (t.actor ≡ get_or schedule i 0)) × (made ≡ true → (0 < mask) × TurnRight policy mask t)
 
--- what is due at entry i: of a lent schedule its end, or the entry's actor; of a made one its end where the mask has nobody, or the rule's turn
-abbrev pub DueRight : (schedule : List ℕ) (i mask : ℕ) → Way → Due → Type 0
-DueRight schedule i mask lent due.End = length schedule ≤ i
-DueRight schedule i mask lent (due.Turn t) = (i < length schedule) × (t.actor ≡ slice_index schedule i) × (way_of t.lead ≡ lent)
-DueRight schedule i mask (made rule kept) due.End = mask ≡ 0
-DueRight schedule i mask (made rule kept) (due.Turn t) = (0 < mask) × TurnRight rule kept mask t
+-- nobody waits for what a step posts: it posts nothing, or adds to the journal
+abbrev pub Unheard : Post → Type 0
+Unheard p = (p ≡ silent) ⊎ (p ≡ notes)

@@ -2,7 +2,7 @@
 -- Assumes nothing.
 use mathlib.Core.Path.{◌≡◌, sym, subst}
 use mathlib.Core.List.{List, [], ◌∷◌, ◌++◌, append_assoc}
-use Prim.Native.Nat.{ℕ, ◌+◌, ◌^◌, ◌<◌, ◌≤◌}
+use Prim.Native.Nat.{ℕ, ◌+◌, ◌/◌, ◌%◌, ◌^◌, ◌<◌, ◌≤◌}
 use native.Mathlib.Omega.{arith}
 use lib.ListN.{length, length-append}
 use Rattle.model.specs.Text.{ascii, decimal, space, line}
@@ -13,11 +13,11 @@ use Rattle.writing.specs.Written.{Wrote}
 use Rattle.writing.proofs.Written.{rest, joined, wrote_then}
 
 -- actors and actions
-pub actor-length : (x : ℕ) → x < 8 → length (decimal x) ≤ 1
-actor-length x h = decimal-most 0 x (omega arith)
+pub actor-length : (x : ℕ) → x < 256 → length (decimal (x / 32)) ≤ 1
+actor-length x h = decimal-most 0 (x / 32) (omega arith)
 
-action-length : (x : ℕ) → x < 32 → length (decimal x) ≤ 2
-action-length x h = decimal-most 1 x (omega arith)
+pub action-length : (x : ℕ) → length (decimal (x % 32)) ≤ 2
+action-length x = decimal-most 1 (x % 32) (omega arith)
 
 -- ---- lines
 
@@ -46,14 +46,16 @@ wrote-refused e b p number position at n h k w v = (
   omega (arith, w.0, v.0, label-length number h, position-length position k),
 )
 
-pub action-line : (x : ℕ) → x < 32 → length (line (space ∷ decimal x)) ≤ 4
-action-line x h = omega (arith, length-append (space ∷ decimal x) (10 ∷ []), action-length x h)
+pub action-line : (x : ℕ) → length (line (space ∷ decimal (x % 32))) ≤ 4
+action-line x = omega (arith, length-append (space ∷ decimal (x % 32)) (10 ∷ []), action-length x)
 
--- the numbers as the code takes them out of the name's byte
-pub wrote-step : (e b p : List ℕ) (byte name actor action at n : ℕ) → byte ≡ name → (actor ≡ (name_of byte).actor) × (actor < 8)
-    → (action ≡ (name_of byte).position) × (action < 32) → Wrote e (decimal actor) b at → Wrote (rest at b) (line (space ∷ decimal action)) p n
-    → Wrote e (line (step_text (name_of name))) (joined at b p) (at + n) × (at + n ≤ 5)
-wrote-step e b p byte name actor action at n d f g w v = (
-  rw (← d, ← f.0, ← g.0, ← line-parts (decimal actor) (space ∷ decimal action)) (wrote_then e (decimal actor) b (line (space ∷ decimal action)) p at n w v),
-  omega (arith, w.0, v.0, actor-length actor f.1, action-line action g.1),
-)
+-- the numbers as the code widened them
+pub wrote-step : (e b p : List ℕ) (name actor action at n : ℕ) → name < 256 → actor ≡ name / 32 → action ≡ name % 32 → Wrote e (decimal actor) b at
+    → Wrote (rest at b) (line (space ∷ decimal action)) p n → Wrote e (line (step_text (name_of name))) (joined at b p) (at + n) × (at + n ≤ 5)
+wrote-step e b p name actor action at n h f g w v =
+    let w' : Wrote e (decimal (name / 32)) b at = subst (λ (x : ℕ). Wrote e (decimal x) b at) f w in
+    let v' : Wrote (rest at b) (line (space ∷ decimal (name % 32))) p n = subst (λ (x : ℕ). Wrote (rest at b) (line (space ∷ decimal x)) p n) g v in (
+      subst (λ (l : List ℕ). Wrote e l (joined at b p) (at + n)) (line-parts (decimal (name / 32)) (space ∷ decimal (name % 32)))
+          (wrote_then e (decimal (name / 32)) b (line (space ∷ decimal (name % 32))) p at n w' v'),
+      omega (arith, w'.0, v'.0, actor-length name h, action-line name),
+    )

@@ -1,5 +1,5 @@
 // The lines of a listing. Each writer puts its lines at the front of the part that it is lent, and answers with their length.
-ghost use Rattle.std.specs.Prelude.{◌++◌, ◌*◌, ◌≤◌, length};
+ghost use Rattle.std.specs.Prelude.{◌++◌, ◌*◌, ◌≤◌, ◌/◌, ◌%◌, length};
 ghost use Rattle.model.specs.Text.{line};
 ghost use Rattle.model.specs.Listing.{end_text, refused_text, step_text};
 ghost use Rattle.names.specs.InByte.{name_of};
@@ -8,8 +8,6 @@ ghost use Rattle.writing.specs.Written.{Wrote};
 ghost use Rattle.lines.specs.FirstSteps.{first_steps};
 
 use answers::Ending;
-use names::Names;
-use table::bytes;
 
 // The only line of a refused run.
 pub fn refused(number: u32, position: u32, buf: &mut [u8]) -> usize
@@ -22,7 +20,7 @@ pub fn refused(number: u32, position: u32, buf: &mut [u8]) -> usize
 }
 
 // The lines of a run: its steps, by the bytes that hold their names, and its ending.
-pub fn run(names: &Names, count: usize, ending: Ending, buf: &mut [u8]) -> usize
+pub fn run(names: &[u8; 256], count: usize, ending: Ending, buf: &mut [u8]) -> usize
     requires { (count ≤ length names.now) × (count ≤ 256) × (1293 ≤ length buf.old) }
     ensures wrote { Wrote buf.old (first_steps names.now count ++ line (end_text (ending_as ending))) buf.new result }
     ensures upper_bound { result ≤ 1293 }
@@ -31,7 +29,7 @@ pub fn run(names: &Names, count: usize, ending: Ending, buf: &mut [u8]) -> usize
     at + last(ending, &mut buf[at..])
 }
 
-fn steps(names: &Names, count: usize, buf: &mut [u8]) -> usize
+fn steps(names: &[u8; 256], count: usize, buf: &mut [u8]) -> usize
     requires { (count ≤ length names.now) × (count ≤ 256) × (5 * count ≤ length buf.old) }
     ensures wrote { Wrote buf.old (first_steps names.now count) buf.new result }
     ensures upper_bound { result ≤ 5 * count }
@@ -51,11 +49,8 @@ fn step(name: u8, buf: &mut [u8]) -> usize
     ensures wrote { Wrote buf.old (line (step_text (name_of name))) buf.new result }
     ensures upper_bound { result ≤ 5 }
 {
-    let byte = bytes::wide(name);
-    let actor = names::actor(byte) as u32;
-    let action = names::action(byte) as u32;
-    let at = text::decimal(actor, buf);
-    at + text::ended(b" ", action, &mut buf[at..])
+    let at = text::decimal(text::wide(name / 32), buf);
+    at + text::ended(b" ", text::wide(name % 32), &mut buf[at..])
 }
 
 fn last(ending: Ending, buf: &mut [u8]) -> usize

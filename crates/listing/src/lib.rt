@@ -5,8 +5,6 @@ ghost use Rattle.writing.specs.Written.{Wrote};
 ghost use Rattle.listing.specs.Laid.{Laid};
 
 use execution::Course;
-use names::STEPS;
-use state::{ENDS, JOURNAL, LOG, QUEUES};
 
 // A listing: the first `length` of the bytes. No listing is longer: 256 steps take at most 5 bytes each, the ending at most 13.
 #[derive(Drop)]
@@ -33,12 +31,12 @@ fn write(table: &[u8], schedule: &[u8], out: &mut [u8]) -> usize
     ensures wrote { Wrote out.old (listing_of table.now schedule.now) out.new result }
     ensures upper_bound { result ≤ 1293 }
 {
-    let mut comms = [0u64; STEPS];
-    let mut log = [0u8; LOG];
-    let mut ends = [0usize; ENDS];
-    let mut queues = [0u8; QUEUES];
-    let mut journal = [0usize; JOURNAL];
-    let mut names = [0u8; STEPS];
+    let mut comms = [0u64; 256];
+    let mut log = [0u8; 4096];
+    let mut ends = [0usize; 32];
+    let mut queues = [0u8; 72];
+    let mut journal = [0usize; 257];
+    let mut names = [0u8; 256];
     let execution = execution::execute(
         table,
         schedule,

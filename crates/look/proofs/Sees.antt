@@ -1,22 +1,23 @@
--- What a look depends on, and what a step is: the actor's own communications, which mutexes it owns, and its cells.
+-- What a look depends on, and what a step is.
 -- Assumes nothing.
 use Prim.Native.Nat.{ℕ}
-use mathlib.Core.Path.{◌≡◌, refl, ap, fun_ext}
-use mathlib.Core.Bool.{Bool}
+use mathlib.Core.Path.{◌≡◌, refl, ap}
 use mathlib.Core.List.{List}
 use Rattle.table.specs.declared.Action.{Action}
-use Rattle.model.specs.Site.{Comm, Site, name}
+use Rattle.trace.specs.Machine.{Name}
+use Rattle.model.specs.Site.{Comm, Queued, Site}
 use Rattle.model.specs.Views.{Look, blind, communications, mutexes, looks}
-use Rattle.model.specs.Mail.{is_done, carried}
-use Rattle.model.specs.Mutex.{owns}
-use Rattle.model.specs.Local.{first, see}
+use Rattle.model.specs.Local.{see}
 use Rattle.model.specs.Step.{step_of}
 
-module _ (s t : Site) (a : ℕ) (comms : (k : ℕ) → s.mail.comm (name a k) ≡ t.mail.comm (name a k)) (owned : (m : ℕ) → owns (s.queue m) a ≡ owns (t.queue m) a) where
-  pub see-own : (l : Look) → see s a l ≡ see t a l
-  see-own blind = refl
-  see-own (communications l) = ap (λ (f : ℕ → Comm). first (λ k. is_done (f k)) (λ k. carried (f k)) 1 l) (fun_ext comms)
-  see-own (mutexes l) = ap (λ (f : ℕ → Bool). first f (λ m. 0) 1 l) (fun_ext owned)
+-- a look sees the communications and the mutex queues alone
+pub see-parts : (s t : Site) (a : ℕ) (l : Look) → s.mail.comm ≡ t.mail.comm → s.queue ≡ t.queue → see s a l ≡ see t a l
+see-parts s t a blind m q = refl
+see-parts s t a (communications l) m q =
+    ap (λ (x : Name → Comm). see (record { actor = s.actor; mail = record { comm = x; waiting = s.mail.waiting }; queue = s.queue; journal = s.journal }) a (communications l)) m
+see-parts s t a (mutexes l) m q = ap (λ (x : ℕ → List Queued). see (record { actor = s.actor; mail = s.mail; queue = x; journal = s.journal }) a (mutexes l)) q
 
-  pub step-own : (table : List ℕ) (x : Action) → (s.actor a).cells ≡ (t.actor a).cells → step_of table s a x ≡ step_of table t a x
-  step-own table x cells = rw (cells, see-own (looks x))
+-- and what an action is as the next step depends on its actor's cells besides
+pub step-parts : (table : List ℕ) (s t : Site) (a : ℕ) (x : Action) → (s.actor a).cells ≡ (t.actor a).cells → s.mail.comm ≡ t.mail.comm
+    → s.queue ≡ t.queue → step_of table s a x ≡ step_of table t a x
+step-parts table s t a x c m q = rw (c, see-parts s t a (looks x) m q)

@@ -7,7 +7,7 @@ ghost use Rattle.model.specs.Step.{taken, waiting};
 ghost use Rattle.state.specs.State.{CommsRoom, QueueRoom, step_as};
 ghost use Rattle.look.specs.Parts.{seen_of, communications_seen, mutexes_seen};
 
-use state::{Comms, Communication, NextStep, Queues, packed};
+use state::NextStep;
 
 // Nothing; or the first place in the list, counted from 1, with the number listed there and the value of that communication (0 for a mutex).
 #[derive(Drop)]
@@ -21,7 +21,7 @@ pub enum Seen {
 }
 
 // The first listed communication of an actor that is done.
-pub fn communications(comms: &Comms, a: usize, list: table::Numbers) -> Seen
+pub fn communications(comms: &[u64; 256], a: usize, list: table::Numbers) -> Seen
     requires { CommsRoom comms.now × (a < 8) × ((i : ℕ) → i < list.count → number_at list i < 32) }
     ensures { seen_of result ≡ communications_seen comms.now a 1 (listed list) }
 {
@@ -41,7 +41,7 @@ pub fn communications(comms: &Comms, a: usize, list: table::Numbers) -> Seen
 }
 
 // The first listed mutex that an actor owns.
-pub fn mutexes(queues: &Queues, a: usize, list: table::Numbers) -> Seen
+pub fn mutexes(queues: &[u8; 72], a: usize, list: table::Numbers) -> Seen
     requires { QueueRoom queues.now × ((i : ℕ) → i < list.count → number_at list i < 8) }
     ensures { seen_of result ≡ mutexes_seen queues.now a 1 (listed list) }
 {
@@ -61,28 +61,26 @@ pub fn mutexes(queues: &Queues, a: usize, list: table::Numbers) -> Seen
 }
 
 // One place of a list of `count` numbers: communication k, if the list has the place and the communication is done.
-fn communication(comms: &Comms, a: usize, count: usize, place: usize, k: usize) -> Seen
+fn communication(comms: &[u64; 256], a: usize, count: usize, place: usize, k: usize) -> Seen
     requires { CommsRoom comms.now × (a < 8) × (place ≤ count → k < 32) }
     ensures { seen_of result ≡ cond (leb place count) (communications_seen comms.now a place (k ∷ [])) unseen }
 {
     if count < place {
         return Seen::Unseen;
     }
-    let at = names::packed(a, k);
-    let posted = packed::posted(comms[at]);
-    match posted {
-        Communication::Unposted => Seen::Unseen,
-        Communication::Pending(_) => Seen::Unseen,
-        Communication::Done { partner: _, value } => Seen::At {
-            place,
-            number: k,
-            value,
-        },
+    let code = comms[32 * a + k];
+    if code % 4 < 2 {
+        return Seen::Unseen;
+    }
+    Seen::At {
+        place,
+        number: k,
+        value: (code / 1024) as u32,
     }
 }
 
 // The same of mutex m, if the actor owns it.
-fn owned(queues: &Queues, a: usize, count: usize, place: usize, m: usize) -> Seen
+fn owned(queues: &[u8; 72], a: usize, count: usize, place: usize, m: usize) -> Seen
     requires { QueueRoom queues.now × (place ≤ count → m < 8) }
     ensures { seen_of result
         ≡ cond (leb place count) (mutexes_seen queues.now a place (m ∷ [])) unseen }

@@ -11,7 +11,6 @@ use lib.Dec.{eqb}
 use lib.ListN.{length, get_or, set}
 use lib.Seq.{get_or-set_same, get_or-set_other}
 use Rattle.trace.proofs.Bools.{which}
-use Rattle.state.specs.Arrays.{ends_length}
 use Rattle.state.specs.State.{head_in, tail_in}
 
 -- ends of one kind, heads or tails: a store at port n's leaves the others'; what holds of the stored one, and of every one before the store, holds of
@@ -42,7 +41,7 @@ module _ (ends : List ℕ) (n v : ℕ) where
   pub tail-other : (k : ℕ) → k ≢ n → tail_in (set ends (2 * n + 1) v) k ≡ tail_in ends k
   tail-other = other (λ k. 2 * k + 1) (λ j k e. omega arith) ends n v
 
-  module _ (long : length ends ≡ ends_length) (small : n < 16) where
+  module _ (long : length ends ≡ 32) (small : n < 16) where
     pub head-own : head_in (set ends (2 * n) v) n ≡ v
     head-own = get_or-set_same ends (2 * n) v 0 (omega arith)
 

@@ -16,7 +16,6 @@ use Rattle.model.specs.Site.{upd, Side, sends, receives, Port, eq_port}
 use Rattle.model.specs.Mail.{at_end}
 use Rattle.model.proofs.Ports.{port-test}
 use Rattle.names.specs.InByte.{name_of}
-use Rattle.state.specs.Arrays.{steps}
 use Rattle.state.specs.State.{side_number, port_number, head_in, tail_in, pending_in, waiting_of, LogRoom}
 use Rattle.mail.specs.Parts.{oldest_in, appended, head_on, tail_on}
 use Rattle.mail.proofs.Changes.{changed-at}
@@ -53,10 +52,10 @@ part-longer log v s k h =
     ap (take (suc k)) (drop-set-add s log k v) ∙ take-suc-set (drop s log) k v (omega (arith, length-drop s log))
 
 -- two ports' logs don't meet
-apart : (k n h l t : ℕ) → k ≢ n → h + l ≤ 256 → t < 256 → (steps * n + t < steps * k + h) ⊎ (steps * k + h + l ≤ steps * n + t)
+apart : (k n h l t : ℕ) → k ≢ n → h + l ≤ 256 → t < 256 → (256 * n + t < 256 * k + h) ⊎ (256 * k + h + l ≤ 256 * n + t)
 apart k n h l t ne b c = go (which (ltb n k))
   where
-    go : (ltb n k ≡ true) ⊎ (ltb n k ≡ false) → (steps * n + t < steps * k + h) ⊎ (steps * k + h + l ≤ steps * n + t)
+    go : (ltb n k ≡ true) ⊎ (ltb n k ≡ false) → (256 * n + t < 256 * k + h) ⊎ (256 * k + h + l ≤ 256 * n + t)
     go (inl p) = inl (omega (arith, ltb-true n k p))
     go (inr p) = inr (omega (arith, ltb-false n k p, ne))
 
@@ -67,17 +66,17 @@ module _ (log ends : List ℕ) (room : LogRoom log ends) (n : ℕ) (small : n < 
     -- the heads stay
     head-stays : (k : ℕ)
         → pending_in (appended log ends n me) (tail_on ends n) k
-        ≡ take (tail_in (tail_on ends n) k - head_in ends k) (drop (steps * k + head_in ends k) (appended log ends n me))
+        ≡ take (tail_in (tail_on ends n) k - head_in ends k) (drop (256 * k + head_in ends k) (appended log ends n me))
     head-stays k =
-        ap (λ (h : ℕ). take (tail_in (tail_on ends n) k - h) (drop (steps * k + h) (appended log ends n me))) (heads-kept ends n (tail_in ends n + 1) k)
+        ap (λ (h : ℕ). take (tail_in (tail_on ends n) k - h) (drop (256 * k + h) (appended log ends n me))) (heads-kept ends n (tail_in ends n + 1) k)
 
     append-own : pending_in (appended log ends n me) (tail_on ends n) n ≡ pending_in log ends n ++ (me ∷ [])
     append-own =
-        let s : ℕ = steps * n + head_in ends n in
+        let s : ℕ = 256 * n + head_in ends n in
         let k : ℕ = tail_in ends n - head_in ends n in
         let e : tail_in (tail_on ends n) n - head_in ends n ≡ suc k =
         omega (arith, tail-own ends n (tail_in ends n + 1) room.ends-long small, room.ordered n) in
-        let f : steps * n + tail_in ends n ≡ s + k = omega (arith, room.ordered n) in
+        let f : 256 * n + tail_in ends n ≡ s + k = omega (arith, room.ordered n) in
         head-stays n
         ∙ ap (λ (j : ℕ). take j (drop s (appended log ends n me))) e
         ∙ ap (λ (i : ℕ). take (suc k) (drop s (set log i me))) f
@@ -85,11 +84,11 @@ module _ (log ends : List ℕ) (room : LogRoom log ends) (n : ℕ) (small : n < 
 
     append-other : (k : ℕ) → k ≢ n → pending_in (appended log ends n me) (tail_on ends n) k ≡ pending_in log ends k
     append-other k ne =
-        let s : ℕ = steps * k + head_in ends k in
+        let s : ℕ = 256 * k + head_in ends k in
         let l : ℕ = tail_in ends k - head_in ends k in
         head-stays k
         ∙ ap (λ (t : ℕ). take (t - head_in ends k) (drop s (appended log ends n me))) (tail-other ends n (tail_in ends n + 1) k ne)
-        ∙ part-kept log (steps * n + tail_in ends n) me s l
+        ∙ part-kept log (256 * n + tail_in ends n) me s l
         (apart k n (head_in ends k) l (tail_in ends n) ne (omega (arith, room.ordered k, room.bounded k)) free)
 
   -- ---- the head of port n goes one further
@@ -98,19 +97,19 @@ module _ (log ends : List ℕ) (room : LogRoom log ends) (n : ℕ) (small : n < 
     take_own : pending_in log ends n ≡ oldest_in log ends n ∷ pending_in log (head_on ends n) n
     take_own =
         let h : ℕ = head_in ends n in
-        let s : ℕ = steps * n + h in
+        let s : ℕ = 256 * n + h in
         let left : ℕ = tail_in (head_on ends n) n - head_in (head_on ends n) n in
         let g : head_in (head_on ends n) n ≡ h + 1 = head-own ends n (h + 1) room.ends-long small in
         let e : tail_in ends n - h ≡ suc left = omega (arith, g, tails-kept ends n (h + 1) n) in
-        let f : suc s ≡ steps * n + head_in (head_on ends n) n = omega (arith, g) in
+        let f : suc s ≡ 256 * n + head_in (head_on ends n) n = omega (arith, g) in
         ap (λ (k : ℕ). take k (drop s log)) e
         ∙ ap (take (suc left)) (drop-cons log s 0 (omega (arith, room.bounded n, room.log-long)))
         ∙ ap (λ (i : ℕ). get_or log s 0 ∷ take left (drop i log)) f
 
     take-other : (k : ℕ) → k ≢ n → pending_in log (head_on ends n) k ≡ pending_in log ends k
     take-other k ne =
-        ap (λ (t : ℕ). take (t - head_in (head_on ends n) k) (drop (steps * k + head_in (head_on ends n) k) log)) (tails-kept ends n (head_in ends n + 1) k)
-        ∙ ap (λ (h : ℕ). take (tail_in ends k - h) (drop (steps * k + h) log)) (head-other ends n (head_in ends n + 1) k ne)
+        ap (λ (t : ℕ). take (t - head_in (head_on ends n) k) (drop (256 * k + head_in (head_on ends n) k) log)) (tails-kept ends n (head_in ends n + 1) k)
+        ∙ ap (λ (h : ℕ). take (tail_in ends k - h) (drop (256 * k + h) log)) (head-other ends n (head_in ends n + 1) k ne)
 
   -- ---- the same of the model's queues, where n is a port's number
 
@@ -151,4 +150,4 @@ module _ (log ends : List ℕ) (room : LogRoom log ends) (n : ℕ) (small : n < 
     waiting_none none =
         let e : tail_in ends n - head_in ends n ≡ 0 = omega arith in
         ap (λ (k : ℕ). map name_of (pending_in log ends k)) (sym number)
-        ∙ ap (λ (k : ℕ). map name_of (take k (drop (steps * n + head_in ends n) log))) e
+        ∙ ap (λ (k : ℕ). map name_of (take k (drop (256 * n + head_in ends n) log))) e

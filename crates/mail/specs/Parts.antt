@@ -1,11 +1,9 @@
 -- What the mail's functions do to the arrays, and what a post promises.
 -- Assumes nothing: these are definitions.
-use Rattle.std.specs.Prelude.{ℕ, ◌+◌, ◌*◌, ◌≤◌, ◌≡◌, Bool, true, List, [], get_or, set}
+use Rattle.std.specs.Prelude.{ℕ, ◌+◌, ◌*◌, ◌≤◌, ◌≡◌, List, get_or, set}
 use Rattle.trace.specs.Machine.{Name}
-use Rattle.model.specs.Site.{Port, opposite, sends, receives}
+use Rattle.model.specs.Site.{Port, sends, receives}
 use Rattle.model.specs.Mail.{meet}
-use Rattle.state.specs.Packed.{done_code}
-use Rattle.state.specs.Arrays.{steps, MailArrays}
 use Rattle.state.specs.State.{head_in, tail_in, mail_of, MailRoom}
 
 -- the two sides of mailbox m
@@ -15,17 +13,24 @@ sends_at m = record { mailbox = m; side = sends }
 abbrev pub receives_at : ℕ → Port
 receives_at m = record { mailbox = m; side = receives }
 
+-- the numbers that stand for a communication: pending with a value, and done with a partner and a value
+abbrev pub pending_code : ℕ → ℕ
+pending_code value = 1 + 1024 * value
+
+abbrev pub done_code : ℕ → ℕ → ℕ
+done_code partner value = 2 + 4 * partner + 1024 * value
+
 -- the communications where a step and another are a pair
 abbrev pub paired : List ℕ → (me other value : ℕ) → List ℕ
 paired comms me other value = set (set comms other (done_code me value)) me (done_code other value)
 
 -- the oldest step pending at port n
 abbrev pub oldest_in : (log ends : List ℕ) → ℕ → ℕ
-oldest_in log ends n = get_or log (steps * n + head_in ends n) 0
+oldest_in log ends n = get_or log (256 * n + head_in ends n) 0
 
 -- the log where a step is written at the end of port n's
 abbrev pub appended : (log ends : List ℕ) → (n me : ℕ) → List ℕ
-appended log ends n me = set log (steps * n + tail_in ends n) me
+appended log ends n me = set log (256 * n + tail_in ends n) me
 
 -- the ends where port n's head, or its tail, is one further
 abbrev pub head_on : (ends : List ℕ) → ℕ → List ℕ
@@ -34,10 +39,8 @@ head_on ends n = set ends (2 * n) (head_in ends n + 1)
 abbrev pub tail_on : (ends : List ℕ) → ℕ → List ℕ
 tail_on ends n = set ends (2 * n + 1) (tail_in ends n + 1)
 
--- a post: the mail is what the model's is when the step meets the port, the arrays keep their room, no tail grows by more than one, and where
--- it answers that the step was alone, nothing was pending on the other side
-pub record Posted (port : Port) (me : Name) (value : ℕ) (before after : MailArrays) (alone : Bool) : Type 0 where
-  pub mail : mail_of after ≡ meet port me value (mail_of before)
-  pub room : MailRoom after
-  pub grown : (n : ℕ) → tail_in after.ends n ≤ tail_in before.ends n + 1
-  pub met-nobody : alone ≡ true → (mail_of before).waiting (opposite port) ≡ []
+-- a post: the mail is what the model's is when the step meets the port, the arrays keep their room, and no tail grows by more than one
+pub record Posted (port : Port) (me : Name) (value : ℕ) (comms log ends comms' log' ends' : List ℕ) : Type 0 where
+  pub mail : mail_of comms' log' ends' ≡ meet port me value (mail_of comms log ends)
+  pub room : MailRoom comms' log' ends'
+  pub grown : (n : ℕ) → tail_in ends' n ≤ tail_in ends n + 1

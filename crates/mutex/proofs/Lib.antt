@@ -1,7 +1,6 @@
 -- The queues in arrays and in the model.
 pub mod Scan
 pub mod Entries
-pub mod Owners
 pub mod Queues
 pub mod Owning
 pub mod MovingUp

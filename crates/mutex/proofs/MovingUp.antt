@@ -8,19 +8,18 @@ use mathlib.Core.List.{List, [], ◌∷◌, ◌++◌}
 use lib.ListN.{length, get_or, take, drop, set, length-set, length-drop}
 use lib.Seq.{take-set-le, drop-set-lt, take-suc, get_or-drop}
 use Rattle.writing.proofs.Stored.{stored}
-use Rattle.state.specs.Arrays.{queues_length}
 use Rattle.mutex.specs.Parts.{MovedUp}
 use Rattle.mutex.proofs.Queues.{part-behind, elem-behind}
 
 -- the first i of the bytes behind `from` have moved up
 pub record MovingUp (queues now : List ℕ) (from n i : ℕ) : Type 0 where
-  pub long : length now ≡ queues_length
+  pub long : length now ≡ 72
   pub turn : i ≤ n
   pub before : take from now ≡ take from queues
   pub moved : take i (drop from now) ≡ take i (drop (from + 1) queues)
   pub behind : drop (from + i) now ≡ drop (from + i) queues
 
-pub begins : (queues : List ℕ) (from n : ℕ) → length queues ≡ queues_length → MovingUp queues queues from n 0
+pub begins : (queues : List ℕ) (from n : ℕ) → length queues ≡ 72 → MovingUp queues queues from n 0
 begins queues from n long = record { long = long; turn = omega arith; before = refl; moved = refl; behind = refl }
 
 module _ (queues now : List ℕ) (from n i : ℕ) (c : MovingUp queues now from n i) where
@@ -34,7 +33,7 @@ module _ (queues now : List ℕ) (from n i : ℕ) (c : MovingUp queues now from 
         behind = ap (λ (k : ℕ). drop (from + k) now) (sym all) ∙ c.behind ∙ ap (λ (k : ℕ). drop (from + k) queues) all;
       }
 
-  pub moves : i < n → from + n < queues_length → length queues ≡ queues_length → MovingUp queues (set now (from + i) (get_or now (from + i + 1) 0)) from n (i + 1)
+  pub moves : i < n → from + n < 72 → length queues ≡ 72 → MovingUp queues (set now (from + i) (get_or now (from + i + 1) 0)) from n (i + 1)
   moves more fits long =
       let b : ℕ = get_or now (from + i + 1) 0 in
       let after : List ℕ = set now (from + i) b in

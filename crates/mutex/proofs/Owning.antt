@@ -1,6 +1,6 @@
 -- Who owns a mutex: nobody where its queue is empty, or else the actor of the queue's first entry.
 -- Assumes nothing.
-use Prim.Native.Nat.{ℕ, suc, ◌+◌, ◌-◌, ◌*◌, ◌<◌}
+use Prim.Native.Nat.{ℕ, suc, ◌+◌, ◌-◌, ◌*◌, ◌%◌, ◌<◌}
 use native.Mathlib.Omega.{arith}
 use mathlib.Core.Path.{◌≡◌, ◌∙◌, ap, sym}
 use mathlib.Core.Bool.{false}
@@ -9,14 +9,13 @@ use lib.Dec.{eqb}
 use lib.ListN.{length, get_or, take, drop}
 use lib.Seq.{drop-cons}
 use Rattle.model.specs.Mutex.{owns}
-use Rattle.state.specs.Packed.{queued_of}
-use Rattle.state.specs.State.{size_in, queues_of, QueueRoom}
+use Rattle.state.specs.State.{queued_of, size_in, queues_of, QueueRoom}
 
 pub owner-none : (queues : List ℕ) (m a : ℕ) → size_in queues m ≡ 0 → false ≡ owns (queues_of queues m) a
 owner-none queues m a e = sym (ap (λ (n : ℕ). owns (map queued_of (take n (drop (9 * m + 1) queues))) a) e)
 
 pub owner-first : (queues : List ℕ) (m a : ℕ) → QueueRoom queues → m < 8 → (size_in queues m ≡ 0 → ⊥)
-    → eqb a (queued_of (get_or queues (9 * m + 1) 0)).actor ≡ owns (queues_of queues m) a
+    → eqb a (get_or queues (9 * m + 1) 0 % 8) ≡ owns (queues_of queues m) a
 owner-first queues m a room known some =
     let more : size_in queues m ≡ suc (size_in queues m - 1) = omega arith in
     let inside : 9 * m + 1 < length queues = omega arith in

@@ -12,9 +12,7 @@ use lib.Seq.{get_or-take, get_or-drop, take-take, drop-drop}
 use borrow.Author.Tests.{eqb-true, eqb-false, ltb-true, ltb-false}
 use Rattle.trace.proofs.Bools.{which}
 use Rattle.model.specs.Site.{upd}
-use Rattle.state.specs.Packed.{queued_of}
-use Rattle.state.specs.Arrays.{queues_length}
-use Rattle.state.specs.State.{size_in, entries_in, queues_of, QueueRoom}
+use Rattle.state.specs.State.{queued_of, size_in, entries_in, queues_of, QueueRoom}
 
 -- a part of a list lies within its front
 part-of-front : (i k n : ℕ) (l : List ℕ) → i + k ≤ n → take k (drop i (take n l)) ≡ take k (drop i l)
@@ -84,7 +82,7 @@ module _ (queues : List ℕ) (m : ℕ) (room : QueueRoom queues) (known : m < 8)
           go j (inr t) =
               ap (map queued_of) (other j (eqb-false j m t)) ∙ sym (ap (λ (b : Bool). cond b (map queued_of l) (queues_of queues j)) t)
 
-      pub room-kept : length after ≡ queues_length → n ≤ 8 → QueueRoom after
+      pub room-kept : length after ≡ 72 → n ≤ 8 → QueueRoom after
       room-kept long short = record { long = long; bounded = λ j. go j (which (eqb j m)) }
         where
           go : (j : ℕ) → (eqb j m ≡ true) ⊎ (eqb j m ≡ false) → size_in after j ≤ 8

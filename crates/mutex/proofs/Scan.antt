@@ -1,6 +1,6 @@
 -- How a loop runs through the n entries of a queue that begin at an index.
 -- Assumes nothing.
-use Prim.Native.Nat.{ℕ, suc, ◌+◌, ◌-◌, ◌<◌, ◌≤◌}
+use Prim.Native.Nat.{ℕ, suc, ◌+◌, ◌-◌, ◌%◌, ◌<◌, ◌≤◌}
 use native.Mathlib.Nat.{sub-zero, add-zero}
 use native.Mathlib.Omega.{arith}
 use mathlib.Core.Path.{◌≡◌, ◌∙◌, ap}
@@ -8,7 +8,6 @@ use mathlib.Core.List.{List, [], ◌∷◌}
 use lib.ListN.{length, get_or, take, drop}
 use lib.Seq.{drop-cons}
 use borrow.Author.Tests.{eq-eqb, ne_eqb}
-use Rattle.state.specs.Packed.{queued_of}
 use Rattle.mutex.specs.Parts.{place_of}
 
 -- the entries from i on
@@ -31,12 +30,12 @@ rest_end : (l : List ℕ) (at n i : ℕ) → n ≤ i → rest l at n i ≡ []
 rest_end l at n i h = let none : n - i ≡ 0 = omega arith in ap (λ (k : ℕ). take k (drop (at + i) l)) none
 
 -- the entry at i is the actor's, or the search goes on; at the end it has none
-pub place_found : (l : List ℕ) (at n i a : ℕ) → i < n → at + n ≤ length l → a ≡ (queued_of (get_or l (at + i) 0)).actor → place_of (rest l at n i) a ≡ 0
-place_found l at n i a h fits e = ap (λ (r : List ℕ). place_of r a) (rest-next l at n i h fits) ∙ rw (eq-eqb a (queued_of (get_or l (at + i) 0)).actor e)
+pub place_found : (l : List ℕ) (at n i a : ℕ) → i < n → at + n ≤ length l → a ≡ get_or l (at + i) 0 % 8 → place_of (rest l at n i) a ≡ 0
+place_found l at n i a h fits e = ap (λ (r : List ℕ). place_of r a) (rest-next l at n i h fits) ∙ rw (eq-eqb a (get_or l (at + i) 0 % 8) e)
 
-pub place-passed : (l : List ℕ) (at n i a : ℕ) → i < n → at + n ≤ length l → (a ≡ (queued_of (get_or l (at + i) 0)).actor → ⊥)
+pub place-passed : (l : List ℕ) (at n i a : ℕ) → i < n → at + n ≤ length l → (a ≡ get_or l (at + i) 0 % 8 → ⊥)
     → place_of (rest l at n i) a ≡ suc (place_of (rest l at n (i + 1)) a)
-place-passed l at n i a h fits e = ap (λ (r : List ℕ). place_of r a) (rest-next l at n i h fits) ∙ rw (ne_eqb a (queued_of (get_or l (at + i) 0)).actor e)
+place-passed l at n i a h fits e = ap (λ (r : List ℕ). place_of r a) (rest-next l at n i h fits) ∙ rw (ne_eqb a (get_or l (at + i) 0 % 8) e)
 
 pub place_end : (l : List ℕ) (at n i a : ℕ) → n ≤ i → place_of (rest l at n i) a ≡ 0
 place_end l at n i a h = ap (λ (r : List ℕ). place_of r a) (rest_end l at n i h)

@@ -1,2 +1,2 @@
--- What an Unlock promises, and what the parts of a mutex's step promise one another.
+-- What the parts of a mutex's step promise one another.
 pub mod Parts

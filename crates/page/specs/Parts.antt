@@ -1,18 +1,31 @@
--- What the page's writer takes and promises, over the engine's arrays.
+-- What the page's writers take and promise, over the engine's arrays.
 -- Assumes nothing: these are definitions.
-use Rattle.std.specs.Prelude.{ℕ, ◌≤◌, List, length}
-use Rattle.model.specs.Page.{page}
+use Rattle.std.specs.Prelude.{ℕ, ◌≤◌, cond, List, [], ltb, length}
+use Rattle.table.specs.Format.{count_of}
+use Rattle.model.specs.Page as Model
 use Rattle.state.specs.declared.Actor.{Actor}
-use Rattle.state.specs.Arrays.{Arrays, seen}
-use Rattle.state.specs.State.{site_of, Positions}
-use Rattle.readiness.specs.Parts.{Answerable}
+use Rattle.state.specs.State.{Positions}
+use Rattle.readiness.specs.Parts.{Answerable, site_with, step_from}
+use Rattle.page.specs.declared.Status.{Status}
+use Rattle.page.specs.declared.Status.TheVariants as case
 
--- the page of the state in the arrays
-abbrev pub page_from : List ℕ → List Actor → Arrays → List ℕ
-page_from table actors s = page table (site_of actors s)
+abbrev pub status_as : Status → Model.Status
+status_as case.Ready = Model.ready
+status_as case.Waits = Model.waits
+status_as case.Over = Model.over
+status_as case.Finished = Model.finished
 
--- a state that can be asked who is ready, and room for its page, in which the rest of the state plays no part
+-- the status of an actor with the record r
+abbrev pub status_from : List ℕ → ℕ → Actor → (comms queues : List ℕ) → Model.Status
+status_from table a r comms queues =
+    cond (ltb r.position (count_of table a)) (Model.step_status (step_from table a r comms queues [] [])) Model.finished
+
+-- the page of the state in the arrays: the ports' logs and the journal play no part in it
+abbrev pub page_from : List ℕ → List Actor → (comms queues : List ℕ) → List ℕ
+page_from table actors comms queues = Model.page table (site_with actors comms queues [] [] [])
+
+-- a state that can be asked who is ready, and room for its page
 pub record Pageable (table : List ℕ) (actors : List Actor) (comms queues buf : List ℕ) : Type 0 where
   pub answerable : Answerable table actors comms queues
   pub positions : Positions actors
-  pub room : (rest : Arrays) → length (page_from table actors (seen comms queues rest)) ≤ length buf
+  pub room : length (page_from table actors comms queues) ≤ length buf

@@ -1,33 +1,63 @@
 // The page of a state: a line for each actor, each into the rest of the lent bytes after the line before it. Each writer puts its text at the
 // front of the part that it is lent, and answers with its length.
-ghost use Rattle.std.specs.Prelude.{◌∷◌, ◌<◌, ◌≤◌, length};
+ghost use Rattle.std.specs.Prelude.{◌≡◌, ◌∷◌, ◌<◌, ◌≤◌, length};
 ghost use Rattle.model.specs.Text.{space, left, line};
 ghost use Rattle.model.specs.Page.{status_word, cells_text, actor_text};
-ghost use Rattle.state.specs.Arrays.{Arrays, seen};
 ghost use Rattle.state.specs.State.{record_of};
-ghost use Rattle.readiness.specs.Parts.{status_as};
+ghost use Rattle.readiness.specs.Parts.{Looked};
 ghost use Rattle.writing.specs.Written.{Wrote};
-ghost use Rattle.page.specs.Parts.{page_from, Pageable};
+ghost use Rattle.page.specs.Parts.{status_as, status_from, page_from, Pageable};
 
-use readiness::Status;
-use state::{Actor, Actors, Comms, Queues};
+use state::{Actor, NextStep};
+use table::access;
+
+// How an actor stands.
+#[derive(Drop)]
+pub enum Status {
+    Ready,
+    Waits,
+    Over,
+    Finished,
+}
 
 // Lays the page out.
-pub fn write(table: &[u8], actors: Actors, comms: &Comms, queues: &Queues, buf: &mut [u8]) -> usize
+pub fn write(
+    table: &[u8],
+    actors: [Actor; 8],
+    comms: &[u64; 256],
+    queues: &[u8; 72],
+    buf: &mut [u8],
+) -> usize
     requires { Pageable table.now actors comms.now queues.now buf.old }
-    ensures { (rest : Arrays) → Wrote buf.old
-        (page_from table.now actors (seen comms.now queues.now rest)) buf.new result }
+    ensures { Wrote buf.old (page_from table.now actors comms.now queues.now) buf.new result }
 {
-    let n = table::access::actors(table);
+    let n = access::actors(table);
     let mut at = 0;
     let mut a = 0;
     while a < n {
         let r = actors[a];
-        let status = readiness::status_of(table, a, r, comms, queues);
+        let status = status_of(table, a, r, comms, queues);
         at += actor_line(a, r, status, &mut buf[at..]);
         a += 1;
     }
     at
+}
+
+// An actor is finished, or stands as its next step does.
+fn status_of(table: &[u8], a: usize, r: Actor, comms: &[u64; 256], queues: &[u8; 72]) -> Status
+    requires { Looked table.now a r comms.now queues.now }
+    ensures { status_as result ≡ status_from table.now a r comms.now queues.now }
+{
+    let k = r.position;
+    if access::actions(table, a) <= k {
+        return Status::Finished;
+    }
+    let next = readiness::next_step(table, a, r, comms, queues);
+    match next {
+        NextStep::Taken => Status::Ready,
+        NextStep::Waits => Status::Waits,
+        NextStep::Over => Status::Over,
+    }
 }
 
 // An actor's line: its number, its position, its status, its cells.

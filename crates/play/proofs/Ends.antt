@@ -16,10 +16,8 @@ use Rattle.model.specs.Site.{Port, unposted, initial}
 use Rattle.model.specs.Schedule.{machine, end_state, RefusalNumbers, check_schedule}
 use Rattle.model.proofs.Checks.{taken-checks}
 use Rattle.model.proofs.ReportBound.{entries-room}
-use Rattle.names.specs.InByte.{name_of, packed_name}
-use Rattle.state.specs.Packed.{comm_of, queued_of, entry_of}
-use Rattle.state.specs.Arrays.{steps, log_length, ends_length, queues_length, journal_length, Arrays, arrays}
-use Rattle.state.specs.State.{record_of, records_of, fresh_actor, comms_of, waiting_of, queues_of, number_noted, journal_of, site_of, port_number}
+use Rattle.names.specs.InByte.{name_of}
+use Rattle.state.specs.State.{record_of, records_of, fresh_actor, comm_of, comms_of, waiting_of, queued_of, queues_of, entry_of, number_noted, journal_of, site_of, port_number}
 use Rattle.play.specs.Parts.{Empty, Ended}
 use Rattle.state.specs.declared.Actor.{Actor}
 use Rattle.play.proofs.Playing.{Playing, Named}
@@ -35,38 +33,34 @@ zeros n = replicate n 0
 fresh-records : records_of (replicate 8 fresh_actor) ≡ (λ a. record_of fresh_actor)
 fresh-records = fun_ext (λ a. ap record_of (get_or-alike 8 a fresh_actor))
 
-fresh-comms : comms_of (zeros steps) ≡ (λ x. unposted)
+fresh-comms : comms_of (zeros 256) ≡ (λ x. unposted)
 fresh-comms = fun_ext each
   where
     either : (b : Bool) → cond b unposted unposted ≡ unposted
     either true = refl
     either false = refl
 
-    each : (x : Name) → comms_of (zeros steps) x ≡ unposted
+    each : (x : Name) → comms_of (zeros 256) x ≡ unposted
     each x =
-        ap (λ (c : ℕ). cond (ltb x.position 32) (comm_of c) unposted) (get_or-alike steps (packed_name x.actor x.position) 0)
+        ap (λ (c : ℕ). cond (ltb x.position 32) (comm_of c) unposted) (get_or-alike 256 (32 * x.actor + x.position) 0)
         ∙ either (ltb x.position 32)
 
-fresh-waiting : (log : List ℕ) → waiting_of log (zeros ends_length) ≡ (λ p. [])
+fresh-waiting : (log : List ℕ) → waiting_of log (zeros 32) ≡ (λ p. [])
 fresh-waiting log = fun_ext each
   where
-    each : (p : Port) → waiting_of log (zeros ends_length) p ≡ []
-    each p = rw (get_or-alike {A = ℕ} ends_length (2 * port_number p) 0, get_or-alike {A = ℕ} ends_length (2 * port_number p + 1) 0)
+    each : (p : Port) → waiting_of log (zeros 32) p ≡ []
+    each p = rw (get_or-alike {A = ℕ} 32 (2 * port_number p) 0, get_or-alike {A = ℕ} 32 (2 * port_number p + 1) 0)
 
-fresh-queues : queues_of (zeros queues_length) ≡ (λ m. [])
+fresh-queues : queues_of (zeros 72) ≡ (λ m. [])
 fresh-queues = fun_ext each
   where
-    each : (m : ℕ) → queues_of (zeros queues_length) m ≡ []
-    each m = ap (λ (n : ℕ). map queued_of (take n (drop (9 * m + 1) (zeros queues_length)))) (get_or-alike {A = ℕ} queues_length (9 * m) 0)
+    each : (m : ℕ) → queues_of (zeros 72) m ≡ []
+    each m = ap (λ (n : ℕ). map queued_of (take n (drop (9 * m + 1) (zeros 72)))) (get_or-alike {A = ℕ} 72 (9 * m) 0)
 
 fresh-journal : (journal : List ℕ) → number_noted journal ≡ 0 → journal_of journal ≡ []
 fresh-journal journal e = ap (λ (n : ℕ). map entry_of (take n (drop 1 journal))) e
 
--- empty arrays
-abbrev empty : (log journal : List ℕ) → Arrays
-empty log journal = arrays (zeros steps) log (zeros ends_length) (zeros queues_length) journal
-
-fresh-site : (log journal : List ℕ) → number_noted journal ≡ 0 → site_of (replicate 8 fresh_actor) (empty log journal) ≡ initial
+fresh-site : (log journal : List ℕ) → number_noted journal ≡ 0 → site_of (replicate 8 fresh_actor) (zeros 256) log (zeros 32) (zeros 72) journal ≡ initial
 unfolding initial
 fresh-site log journal e =
     λ i. record {
@@ -76,50 +70,45 @@ fresh-site log journal e =
       journal = fresh-journal journal e i;
     }
 
-start-empty : (table schedule log journal : List ℕ) → WellFormed table → length log ≡ log_length → length journal ≡ journal_length → number_noted journal ≡ 0
-    → Playing table schedule (empty log journal) (replicate 8 fresh_actor) 0
+start-empty : (table schedule log journal : List ℕ) → WellFormed table → length log ≡ 4096 → length journal ≡ 257 → number_noted journal ≡ 0
+    → Playing table schedule (zeros 256) log (zeros 32) (zeros 72) journal (replicate 8 fresh_actor) 0
 start-empty table schedule log journal ok log-long journal-long none =
     record {
       accepted-table = ok;
       site = fresh-site log journal none;
       taken = refl;
       index = omega arith;
-      actors-room = record {
-        long = length-replicate 8 fresh_actor;
-        eight = λ a. ap (λ (r : Actor). length r.cells) (get_or-alike 8 a fresh_actor) ∙ length-replicate {A = ℕ} 8 0;
-      };
-      room = record {
-        mail = record {
-          comms-room = record {
-            long = length-replicate {A = ℕ} steps 0;
-            valued = λ j. subst (λ (c : ℕ). c < 2 ^ 42) (sym (get_or-alike {A = ℕ} steps j 0)) (lit< tt);
-          };
-          log-room = record {
-            log-long = log-long;
-            ends-long = length-replicate {A = ℕ} ends_length 0;
-            ordered = λ n. omega (arith, get_or-alike {A = ℕ} ends_length (2 * n) 0);
-            bounded = λ n. omega (arith, get_or-alike {A = ℕ} ends_length (2 * n + 1) 0);
-          };
+      actors-long = length-replicate 8 fresh_actor;
+      eight = λ a. ap (λ (r : Actor). length r.cells) (get_or-alike 8 a fresh_actor) ∙ length-replicate {A = ℕ} 8 0;
+      mail-room = record {
+        comms-room = record {
+          long = length-replicate {A = ℕ} 256 0;
+          valued = λ j. subst (λ (c : ℕ). c < 2 ^ 42) (sym (get_or-alike {A = ℕ} 256 j 0)) (lit< tt);
         };
-        queue = record { long = length-replicate {A = ℕ} queues_length 0; bounded = λ m. omega (arith, get_or-alike {A = ℕ} queues_length (9 * m) 0) };
-        journal = record { long = journal-long; bounded = omega (arith, none) };
+        log-room = record {
+          log-long = log-long;
+          ends-long = length-replicate {A = ℕ} 32 0;
+          ordered = λ n. omega (arith, get_or-alike {A = ℕ} 32 (2 * n) 0);
+          bounded = λ n. omega (arith, get_or-alike {A = ℕ} 32 (2 * n + 1) 0);
+        };
       };
-      tail-room = λ n. omega (arith, get_or-alike {A = ℕ} ends_length (2 * n + 1) 0);
+      queue-room = record { long = length-replicate {A = ℕ} 72 0; bounded = λ m. omega (arith, get_or-alike {A = ℕ} 72 (9 * m) 0) };
+      journal-room = record { long = journal-long; bounded = omega (arith, none) };
+      tail-room = λ n. omega (arith, get_or-alike {A = ℕ} 32 (2 * n + 1) 0);
     }
 
 -- such arrays hold a fresh site
-pub playing-start : (table schedule : List ℕ) {σ : Arrays} {actors : List Actor} → WellFormed table → Empty σ → actors ≡ replicate 8 fresh_actor
-    → Playing table schedule σ actors 0
-playing-start table schedule {σ} {actors} ok z e =
-    let same : σ ≡ empty σ.mail.log σ.journal =
-    λ i. arrays (z.comms-fresh i) σ.mail.log (z.ends_fresh i) (z.queues-fresh i) σ.journal in
-    subst (λ (τ : Arrays). Playing table schedule τ actors 0) (sym same)
-    (rw e (start-empty table schedule σ.mail.log σ.journal ok z.log-long z.journal-long z.journal-empty))
+pub playing-start : (table schedule comms log ends queues journal : List ℕ) (actors : List Actor)
+    → WellFormed table → Empty comms log ends queues journal → actors ≡ replicate 8 fresh_actor
+    → Playing table schedule comms log ends queues journal actors 0
+playing-start table schedule comms log ends queues journal actors ok z e =
+    rw (z.comms-fresh, z.ends_fresh, z.queues-fresh, e) (start-empty table schedule log journal ok z.log-long z.journal-long z.journal-empty)
 
-pub named_start : (table schedule names' : List ℕ) → length names' ≡ steps → Named table schedule names' 0
+pub named_start : (table schedule names' : List ℕ) → length names' ≡ 256 → Named table schedule names' 0
 named_start table schedule names' long = record { names-long = long; names-right = refl }
 
-module _ {table schedule : List ℕ} {σ : Arrays} {actors : List Actor} {i : ℕ} (P : Playing table schedule σ actors i) (through : length schedule ≤ i) where
+module _ {table schedule comms log ends queues journal : List ℕ} {actors : List Actor} {i : ℕ}
+    (P : Playing table schedule comms log ends queues journal actors i) (through : length schedule ≤ i) where
   all : i ≡ length schedule
   all = omega (arith, P.index)
 
@@ -132,12 +121,15 @@ module _ {table schedule : List ℕ} {σ : Arrays} {actors : List Actor} {i : �
   pub checks-end : (n : RefusalNumbers) → fine ≡ check_schedule n table schedule
   checks-end n = sym (taken-checks table n initial 0 schedule taken-all)
 
-  pub ended : {names' : List ℕ} → Named table schedule names' i → Ended table schedule σ names' actors
+  pub ended : {names' : List ℕ} → Named table schedule names' i → Ended table schedule comms log ends queues journal names' actors
   ended {names'} N =
       record {
         site = P.site ∙ ap (end_state table) whole;
-        actors-room = P.actors-room;
-        room = P.room;
+        actors-long = P.actors-long;
+        eight = P.eight;
+        mail-room = P.mail-room;
+        queue-room = P.queue-room;
+        journal-room = P.journal-room;
         entries-most = entries-room table P.accepted-table schedule taken-all;
         names-long = N.names-long;
         names-right =

@@ -1,18 +1,15 @@
 -- One entry of a schedule, with the actor and its record as the code has them.
 -- Assumes nothing.
 use mathlib.Core.Path.{◌≡◌, sym, subst}
-use mathlib.Core.Logic.{◌≢◌}
 use mathlib.Core.Bool.{true, false}
 use mathlib.Core.List.{List}
-use Prim.Native.Nat.{ℕ, ◌+◌, ◌<◌, ◌≤◌}
+use Prim.Native.Nat.{ℕ, ◌+◌, ◌*◌, ◌<◌, ◌≤◌}
 use lib.ListN.{length, get_or, set}
 use Rattle.table.specs.Outcome.{refused}
 use Rattle.table.specs.Format.{actors_of, count_of}
 use Rattle.model.specs.Step.{NextStep, taken, is_taken, step_of, ready}
 use Rattle.model.specs.Schedule.{RefusalNumbers, check_step, check_schedule}
-use Rattle.names.specs.InByte.{packed_name}
-use Rattle.state.specs.Arrays.{Arrays}
-use Rattle.state.specs.State.{fresh_actor, held_in, next_of, seen_from, step_as}
+use Rattle.state.specs.State.{fresh_actor, mail_of, queues_of, next_of, seen_from, step_as}
 use Rattle.step.specs.Parts.{Steppable, StepTaken}
 use Rattle.play.specs.Parts.{PlayedRight, halt_of}
 use Rattle.state.specs.declared.Actor.{Actor}
@@ -20,14 +17,15 @@ use Rattle.step.specs.declared.Stepped.{Stepped}
 use Rattle.play.specs.declared.Halt.TheVariants.{End}
 use Rattle.play.specs.declared.Played.{Played}
 use Rattle.play.proofs.Playing.{reached, Playing, Named}
-use Rattle.play.proofs.Next.{entry-finished, entry-untaken, step-taken, steppable, room-here, quiet-here, playing-next, named-next}
+use Rattle.play.proofs.Next.{entry-finished, entry-untaken, step-taken, steppable, room-here, playing-next, named-next}
 
 -- what a halt before the end says of the schedule is all that is to be shown
-pub refusal : {table schedule names' : List ℕ} {σ : Arrays} (r : Played) → (r.halt ≡ End → ⊥)
-    → ((n : RefusalNumbers) → halt_of n r.halt ≡ check_schedule n table schedule) → PlayedRight table schedule σ names' r
+pub refusal : {table schedule comms log ends queues journal names' : List ℕ} (r : Played) → (r.halt ≡ End → ⊥)
+    → ((n : RefusalNumbers) → halt_of n r.halt ≡ check_schedule n table schedule) → PlayedRight table schedule comms log ends queues journal names' r
 refusal r before h = record { halted = h; counted = λ e. absurd (before e); ended = λ e. absurd (before e) }
 
-module _ {table schedule : List ℕ} {σ : Arrays} {actors : List Actor} {i : ℕ} (P : Playing table schedule σ actors i) (more : i < length schedule)
+module _ {table schedule comms log ends queues journal : List ℕ} {actors : List Actor} {i : ℕ}
+    (P : Playing table schedule comms log ends queues journal actors i) (more : i < length schedule)
     (a : ℕ) (entry : a ≡ get_or schedule i 0) (r : Actor) (own : r ≡ get_or actors a fresh_actor) where
   -- what holds of the entry's actor and its record holds of a and r
   as_read : (Q : ℕ → Actor → Type 0) → Q (get_or schedule i 0) (get_or actors (get_or schedule i 0) fresh_actor) → Q a r
@@ -41,69 +39,58 @@ module _ {table schedule : List ℕ} {σ : Arrays} {actors : List Actor} {i : �
       (entry-finished P more)
 
   pub untaken-as : a < actors_of table → r.position < count_of table a
-      → (t : NextStep) → step_of table (seen_from r (held_in σ)) a (next_of table a r) ≡ t → is_taken t ≡ false
+      → (t : NextStep) → step_of table (seen_from r (mail_of comms log ends) (queues_of queues)) a (next_of table a r) ≡ t → is_taken t ≡ false
       → (n : RefusalNumbers) → check_step n t i ≡ check_schedule n table schedule
   untaken-as =
       as_read
       (λ b q.
       b < actors_of table → q.position < count_of table b
-      → (t : NextStep) → step_of table (seen_from q (held_in σ)) b (next_of table b q) ≡ t → is_taken t ≡ false
+      → (t : NextStep) → step_of table (seen_from q (mail_of comms log ends) (queues_of queues)) b (next_of table b q) ≡ t → is_taken t ≡ false
       → (n : RefusalNumbers) → check_step n t i ≡ check_schedule n table schedule)
       (entry-untaken P more)
 
   pub taken_as : a < actors_of table → r.position < count_of table a → ready table (reached table schedule i) a ≡ true
-      → step_of table (seen_from r (held_in σ)) a (next_of table a r) ≡ taken
+      → step_of table (seen_from r (mail_of comms log ends) (queues_of queues)) a (next_of table a r) ≡ taken
   taken_as =
       as_read
       (λ b q.
       b < actors_of table → q.position < count_of table b → ready table (reached table schedule i) b ≡ true
-      → step_of table (seen_from q (held_in σ)) b (next_of table b q) ≡ taken)
+      → step_of table (seen_from q (mail_of comms log ends) (queues_of queues)) b (next_of table b q) ≡ taken)
       (step-taken P more)
 
-  pub steppable-as : a < actors_of table → r.position < count_of table a → Steppable table a r σ
+  pub steppable-as : a < actors_of table → r.position < count_of table a → Steppable table a r comms log ends queues journal
   steppable-as =
-      as_read (λ b q. b < actors_of table → q.position < count_of table b → Steppable table b q σ) (steppable P more)
+      as_read (λ b q. b < actors_of table → q.position < count_of table b → Steppable table b q comms log ends queues journal) (steppable P more)
 
-  pub room_as : {σ' : Arrays} {t : Stepped} → a < actors_of table → r.position < count_of table a
-      → StepTaken table a (next_of table a r) r σ σ' t → step_as t.next ≡ taken
+  pub room_as : {comms' log' ends' queues' journal' : List ℕ} {s : Stepped} → a < actors_of table → r.position < count_of table a
+      → StepTaken table a (next_of table a r) r comms log ends queues journal comms' log' ends' queues' journal' s → step_as s.next ≡ taken
       → i < 256
-  room_as {σ'} {t} =
+  room_as {comms'} {log'} {ends'} {queues'} {journal'} {s} =
       as_read
       (λ b q.
       b < actors_of table → q.position < count_of table b
-      → StepTaken table b (next_of table b q) q σ σ' t → step_as t.next ≡ taken
+      → StepTaken table b (next_of table b q) q comms log ends queues journal comms' log' ends' queues' journal' s → step_as s.next ≡ taken
       → i < 256)
       (λ in_table left taken go. room-here P more in_table left taken go)
 
-  pub next-as : {σ' : Arrays} {t : Stepped} → a < actors_of table → r.position < count_of table a
-      → StepTaken table a (next_of table a r) r σ σ' t → step_as t.next ≡ taken
-      → Playing table schedule σ' (set actors a t.actor) (i + 1)
-  next-as {σ'} {t} =
+  pub next-as : {comms' log' ends' queues' journal' : List ℕ} {s : Stepped} → a < actors_of table → r.position < count_of table a
+      → StepTaken table a (next_of table a r) r comms log ends queues journal comms' log' ends' queues' journal' s → step_as s.next ≡ taken
+      → Playing table schedule comms' log' ends' queues' journal' (set actors a s.actor) (i + 1)
+  next-as {comms'} {log'} {ends'} {queues'} {journal'} {s} =
       as_read
       (λ b q.
       b < actors_of table → q.position < count_of table b
-      → StepTaken table b (next_of table b q) q σ σ' t → step_as t.next ≡ taken
-      → Playing table schedule σ' (set actors b t.actor) (i + 1))
+      → StepTaken table b (next_of table b q) q comms log ends queues journal comms' log' ends' queues' journal' s → step_as s.next ≡ taken
+      → Playing table schedule comms' log' ends' queues' journal' (set actors b s.actor) (i + 1))
       (λ in_table left taken go. playing-next P more in_table left taken go)
 
-  pub quiet-as : {σ' : Arrays} {t : Stepped} → a < actors_of table → r.position < count_of table a
-      → StepTaken table a (next_of table a r) r σ σ' t → step_as t.next ≡ taken → t.quiet ≡ true
-      → (j : ℕ) → j ≢ a → ready table (reached table schedule i) j ≡ ready table (reached table schedule (i + 1)) j
-  quiet-as {σ'} {t} =
+  pub named-as : {comms' log' ends' queues' journal' names' : List ℕ} {s : Stepped} → a < actors_of table → r.position < count_of table a
+      → StepTaken table a (next_of table a r) r comms log ends queues journal comms' log' ends' queues' journal' s → step_as s.next ≡ taken
+      → Named table schedule names' i → Named table schedule (set names' i (32 * a + r.position)) (i + 1)
+  named-as {comms'} {log'} {ends'} {queues'} {journal'} {names'} {s} =
       as_read
       (λ b q.
       b < actors_of table → q.position < count_of table b
-      → StepTaken table b (next_of table b q) q σ σ' t → step_as t.next ≡ taken → t.quiet ≡ true
-      → (j : ℕ) → j ≢ b → ready table (reached table schedule i) j ≡ ready table (reached table schedule (i + 1)) j)
-      (λ in_table left taken go. quiet-here P more in_table left taken go)
-
-  pub named-as : {σ' : Arrays} {names' : List ℕ} {t : Stepped} → a < actors_of table → r.position < count_of table a
-      → StepTaken table a (next_of table a r) r σ σ' t → step_as t.next ≡ taken
-      → Named table schedule names' i → Named table schedule (set names' i (packed_name a r.position)) (i + 1)
-  named-as {σ'} {names'} {t} =
-      as_read
-      (λ b q.
-      b < actors_of table → q.position < count_of table b
-      → StepTaken table b (next_of table b q) q σ σ' t → step_as t.next ≡ taken
-      → Named table schedule names' i → Named table schedule (set names' i (packed_name b q.position)) (i + 1))
+      → StepTaken table b (next_of table b q) q comms log ends queues journal comms' log' ends' queues' journal' s → step_as s.next ≡ taken
+      → Named table schedule names' i → Named table schedule (set names' i (32 * b + q.position)) (i + 1))
       (λ in_table left taken go. named-next P more in_table left taken go)

@@ -5,5 +5,5 @@ pub mod Next
 pub mod Ends
 pub mod Entry
 pub mod Masks
+pub mod Quiet
 pub mod Making
-pub mod Led

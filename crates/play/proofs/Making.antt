@@ -2,7 +2,6 @@
 -- that; who is known to be ready after it.
 -- Assumes nothing.
 use mathlib.Core.Path.{◌≡◌, refl, ◌∙◌, ap, sym, subst}
-use mathlib.Core.Logic.{◌≢◌}
 use mathlib.Core.Bool.{true}
 use mathlib.Core.List.{List, [], ◌∷◌, ◌++◌}
 use Prim.Native.Nat.{ℕ, suc, ◌+◌, ◌-◌, ◌<◌, ◌≤◌}
@@ -12,14 +11,16 @@ use borrow.Author.Tests.{ltb-true}
 use lib.ListN.{length, get_or, take, drop, length-drop}
 use lib.Seq.{take-suc, drop-cons, length-take-le}
 use Rattle.table.specs.Format.{actors_of}
+use Rattle.table.specs.Decode.{action_of}
 use Rattle.trace.specs.Schedule.{final}
 use Rattle.trace.proofs.Run.{inv-final}
 use Rattle.model.specs.Site.{Site, initial}
+use Rattle.model.specs.Views.{posts}
 use Rattle.model.specs.Step.{ready, step}
 use Rattle.model.specs.Ready.{bit_of, ready_mask, ready_count}
 use Rattle.model.specs.Schedule.{machine}
 use Rattle.model.specs.Scheduler.{Rule, schedule_room, turn_of, entries_from, made_from}
-use Rattle.model.proofs.Invariant.{inv-initial}
+use Rattle.model.proofs.Invariant.{inv-initial, own-position}
 use Rattle.model.proofs.Checks.{ready-parts}
 use Rattle.model.proofs.Laws.{laws}
 use Rattle.model.proofs.Reached.{reached-end}
@@ -27,13 +28,15 @@ use Rattle.model.proofs.ReadyMask.{bit-one, mask-right}
 use Rattle.model.proofs.ReportBound.{actions-most}
 use Rattle.model.proofs.ReportBoundSteps.{schedule-taken}
 use Rattle.model.proofs.Scheduled.{Chooses, ready-left, turn-ready, entries-turn, entries-end}
-use Rattle.state.specs.Arrays.{Arrays}
+use Rattle.state.specs.State.{fresh_actor}
 use Rattle.state.specs.declared.Actor.{Actor}
+use Rattle.lead.specs.Parts.{Unheard}
 use Rattle.readiness.specs.Parts.{Answerable, Known}
 use Rattle.readiness.proofs.Laws.{ready-alike}
 use Rattle.play.proofs.Prefix.{final-more}
 use Rattle.play.proofs.Playing.{reached, Playing}
 use Rattle.play.proofs.Masks.{mask-some, mask-none, OwnOpen}
+use Rattle.play.proofs.Quiet.{quiet-ready}
 
 -- what is left of a schedule is what the rule makes of the state after i turns, by what it keeps then
 abbrev pub Left : Rule → (table whole : List ℕ) (i kept : ℕ) → Type 0
@@ -43,8 +46,8 @@ pub left-start : (rule : Rule) (table : List ℕ) (start : ℕ) → Left rule ta
 unfolding made_from
 left-start rule table start = refl
 
-module _ (rule : Rule) (chooses : Chooses rule) (table whole : List ℕ) (kept : ℕ) {σ : Arrays} {actors : List Actor} {i mask : ℕ}
-    (P : Playing table whole σ actors i) (rest : Left rule table whole i kept) (masked : mask ≡ ready_mask table (reached table whole i)) where
+module _ (rule : Rule) (chooses : Chooses rule) (table whole : List ℕ) (kept : ℕ) {comms log ends queues journal : List ℕ} {actors : List Actor} {i mask : ℕ}
+    (P : Playing table whole comms log ends queues journal actors i) (rest : Left rule table whole i kept) (masked : mask ≡ ready_mask table (reached table whole i)) where
   abbrev here : Site
   here = reached table whole i
 
@@ -102,23 +105,41 @@ module _ (rule : Rule) (chooses : Chooses rule) (table whole : List ℕ) (kept :
         ∙ ap (entries_from rule table (schedule_room - (i + 1)) (reached table whole (i + 1))) (sym k)
 
     -- who was ready before the step is ready after it, but perhaps its own actor
-    pub known_next : {σ' : Arrays} {actors' : List Actor} → Playing table whole σ' actors' (i + 1) → Known table mask a actors' σ'.mail.comms σ'.queues
-    known_next {σ'} {actors'} Q j h ne rest =
+    pub known_next : {comms' log' ends' queues' journal' : List ℕ} {actors' : List Actor} → Playing table whole comms' log' ends' queues' journal' actors' (i + 1)
+        → Known table mask a actors' comms' queues'
+    known_next {comms'} {log'} {ends'} {queues'} {journal'} {actors'} Q j h ne l e n =
         let was : ready table here j ≡ true =
         bit-one (ready table here j) (sym ((mask-right table here).bits j) ∙ sym (ap (λ (m : ℕ). bit_of m j) masked) ∙ h) in
         let inv = inv-final (laws table) initial (take i whole) (inv-initial table) P.taken in
-        ready-alike table actors' σ'.mail.comms σ'.queues rest σ' j
+        ready-alike table actors' comms' queues' l e n log' ends' journal' j
         ∙ ap (λ (s : Site). ready table s j) (Q.site ∙ there) ∙ (laws table).persist here j a inv ne was is-ready
 
-    -- after a step by which nobody else has become ready, the mask is right but perhaps for its own actor
-    pub open_next : ((j : ℕ) → j ≢ a → ready table here j ≡ ready table (reached table whole (i + 1)) j) → OwnOpen table (reached table whole (i + 1)) mask a
-    open_next quiet = record { before = ready table here; was-masked = masked; had = is-ready; others = quiet }
+    -- after a step that nobody waits for, the mask is right but perhaps for its own actor
+    pub open_next : {comms' log' ends' queues' journal' : List ℕ} {actors' : List Actor} → Playing table whole comms' log' ends' queues' journal' actors' (i + 1)
+        → Unheard (posts (action_of table a ((get_or actors' a fresh_actor).position - 1))) → OwnOpen table (reached table whole (i + 1)) mask a
+    open_next {comms'} {log'} {ends'} {queues'} {journal'} {actors'} Q quiet =
+        let one_on : (get_or actors' a fresh_actor).position ≡ suc (here.actor a).position =
+        ap (λ (s : Site). (s.actor a).position) (Q.site ∙ there) ∙ own-position table here a in
+        let its_own : (here.actor a).position ≡ (get_or actors' a fresh_actor).position - 1 = omega arith in
+        record {
+          before = ready table here;
+          was-masked = masked;
+          had = is-ready;
+          others = λ j ne.
+              sym (quiet-ready table here a (subst (λ (k : ℕ). Unheard (posts (action_of table a k))) (sym its_own) quiet) j ne) ∙ ap (λ (s : Site). ready table s j) (sym there);
+        }
 
     pub turn-in-table : a < actors_of table
     turn-in-table = ltb-true a (actors_of table) (ready-parts table here a is-ready).0
 
 -- what a look at every actor may rely on
-pub answerable : {table schedule : List ℕ} {σ : Arrays} {actors : List Actor} {i : ℕ} → Playing table schedule σ actors i
-    → Answerable table actors σ.mail.comms σ.queues
+pub answerable : {table schedule comms log ends queues journal : List ℕ} {actors : List Actor} {i : ℕ} → Playing table schedule comms log ends queues journal actors i
+    → Answerable table actors comms queues
 answerable P =
-    record { accepted = P.accepted-table; actors-room = P.actors-room; comms-room = P.room.mail.comms-room; queue-room = P.room.queue }
+    record {
+      accepted = P.accepted-table;
+      actors-long = P.actors-long;
+      eight = P.eight;
+      comms-room = P.mail-room.comms-room;
+      queue-room = P.queue-room;
+    }

@@ -2,7 +2,7 @@
 -- Assumes nothing.
 use mathlib.Core.Path.{◌≡◌, refl, ◌∙◌, ap, ap₂, sym, subst}
 use mathlib.Core.Bool.{Bool, true, false, true≢false}
-use mathlib.Core.Logic.{◌⊎◌, inl, inr, ◌≢◌}
+use mathlib.Core.Logic.{◌⊎◌, inl, inr}
 use mathlib.Core.List.{List, [], ◌∷◌, ◌++◌, map, map-append}
 use Prim.Native.Nat.{ℕ, suc, ◌+◌, ◌*◌, ◌<◌, ◌≤◌}
 use native.Mathlib.Nat.{zero-add}
@@ -31,9 +31,8 @@ use Rattle.model.proofs.Reached.{reached-end}
 use Rattle.model.proofs.Journaled.{note-longer}
 use Rattle.model.proofs.ReportBoundCells.{cells_after-length}
 use Rattle.model.proofs.ReportBound.{entries-room, journal-room}
-use Rattle.names.specs.InByte.{name_of, packed_name}
-use Rattle.state.specs.Arrays.{steps, Arrays}
-use Rattle.state.specs.State.{record_of, records_of, fresh_actor, held_in, site_with, site_of, number_noted, EightCells, next_of, seen_from, step_as}
+use Rattle.names.specs.InByte.{name_of}
+use Rattle.state.specs.State.{record_of, records_of, fresh_actor, mail_of, queues_of, number_noted, site_of, EightCells, next_of, seen_from, step_as}
 use Rattle.step.specs.Parts.{Steppable, StepTaken}
 use Rattle.state.specs.declared.Actor.{Actor}
 use Rattle.step.specs.declared.Stepped.{Stepped}
@@ -42,8 +41,7 @@ use Rattle.model.proofs.Checks.{ready-parts, parts-ready, checks-after}
 use Rattle.play.proofs.Prefix.{accepted-more, final-more, names_more}
 use Rattle.play.proofs.Playing.{reached, Playing, Named, records-set, join-most, deeper-most}
 use Rattle.journal.proofs.Held.{counts}
-use Rattle.look.proofs.Sees.{see-own, step-own}
-use Rattle.readiness.proofs.Laws.{ready-own}
+use Rattle.look.proofs.Sees.{see-parts, step-parts}
 
 -- what follows a step that is not taken plays no part
 step-decides : (n : RefusalNumbers) (t : NextStep) (i : ℕ) (after : Outcome) → is_taken t ≡ false → check_step n t i ≡ (check_step n t i ⨾ after)
@@ -51,9 +49,10 @@ step-decides n taken i after h = absurd (true≢false h)
 step-decides n waiting i after h = refl
 step-decides n over i after h = refl
 
-module _ {table schedule : List ℕ} {σ : Arrays} {actors : List Actor} {i : ℕ} (P : Playing table schedule σ actors i) where
+module _ {table schedule comms log ends queues journal : List ℕ} {actors : List Actor} {i : ℕ}
+    (P : Playing table schedule comms log ends queues journal actors i) where
   abbrev here : Site
-  here = site_of actors σ
+  here = site_of actors comms log ends queues journal
 
   pub entries-so-far : i ≤ 256
   entries-so-far =
@@ -100,23 +99,23 @@ module _ {table schedule : List ℕ} {σ : Arrays} {actors : List Actor} {i : �
         still = unfinished-here true (lt-ltb r.position (count_of table a) left)
 
         -- the step's own view decides what the step is
-        step-here : next_step table (reached table schedule i) a ≡ step_of table (seen_from r (held_in σ)) a x
+        step-here : next_step table (reached table schedule i) a ≡ step_of table (seen_from r (mail_of comms log ends) (queues_of queues)) a x
         step-here =
             sym (ap (λ (s : Site). next_step table s a) P.site)
-            ∙ step-own here (seen_from r (held_in σ)) a (λ k. refl) (λ m. refl) table x refl
+            ∙ step-parts table here (seen_from r (mail_of comms log ends) (queues_of queues)) a x refl refl refl
 
         -- a step that is not taken is refused by what it is
-        pub entry-untaken : (t : NextStep) → step_of table (seen_from r (held_in σ)) a x ≡ t → is_taken t ≡ false
+        pub entry-untaken : (t : NextStep) → step_of table (seen_from r (mail_of comms log ends) (queues_of queues)) a x ≡ t → is_taken t ≡ false
             → (n : RefusalNumbers) → check_step n t i ≡ check_schedule n table schedule
         entry-untaken t e not n =
             step-decides n t i (check_from n table (step table (reached table schedule i) a) (suc i) (drop (suc i) schedule)) not
             ∙ sym (checks-here n ∙ rw (lt-ltb a (actors_of table) in_table, still, step-here ∙ e))
 
         -- the step of a ready actor is taken
-        pub step-taken : ready table (reached table schedule i) a ≡ true → step_of table (seen_from r (held_in σ)) a x ≡ taken
+        pub step-taken : ready table (reached table schedule i) a ≡ true → step_of table (seen_from r (mail_of comms log ends) (queues_of queues)) a x ≡ taken
         step-taken e = sym step-here ∙ (ready-parts table (reached table schedule i) a e).2
 
-        ready-here : step_of table (seen_from r (held_in σ)) a x ≡ taken → ready table (reached table schedule i) a ≡ true
+        ready-here : step_of table (seen_from r (mail_of comms log ends) (queues_of queues)) a x ≡ taken → ready table (reached table schedule i) a ≡ true
         ready-here e = parts-ready table (reached table schedule i) a (lt-ltb a (actors_of table) in_table) still (ap is_taken (step-here ∙ e))
 
         -- ---- a step
@@ -131,10 +130,10 @@ module _ {table schedule : List ℕ} {σ : Arrays} {actors : List Actor} {i : �
             omega arith
 
         -- a Note is taken, so that the journal with its entry is that of a state that is reached too
-        note-more : (cell : ℕ) → x ≡ Note cell → number_noted σ.journal < steps
+        note-more : (cell : ℕ) → x ≡ Note cell → number_noted journal < 256
         note-more cell e =
             let now : ready table (reached table schedule i) a ≡ true =
-            ready-here (ap (step_of table (seen_from r (held_in σ)) a) e) in
+            ready-here (ap (step_of table (seen_from r (mail_of comms log ends) (queues_of queues)) a) e) in
             let there : length (reached table schedule (i + 1)).journal ≤ 256 =
             journal-room table P.accepted-table (reached table schedule (i + 1)) (reached-end table (take (i + 1) schedule) (taken_more now)) in
             let one_on : reached table schedule (i + 1) ≡ step table (reached table schedule i) a =
@@ -147,17 +146,19 @@ module _ {table schedule : List ℕ} {σ : Arrays} {actors : List Actor} {i : �
               ap (λ (s : Site). length s.journal) one_on,
               note-longer table (reached table schedule i) a cell action,
               ap (λ (s : Site). length s.journal) P.site,
-              counts σ.journal P.room.journal,
+              counts journal P.journal-room,
             )
 
-        pub steppable : Steppable table a r σ
+        pub steppable : Steppable table a r comms log ends queues journal
         steppable =
             record {
               accepted = P.accepted-table;
               actor = in_table;
               unfinished = left;
-              eight = P.actors-room.eight a;
-              room = P.room;
+              eight = P.eight a;
+              mail-room = P.mail-room;
+              queue-room = P.queue-room;
+              journal-room = P.journal-room;
               tail-room = λ e n. let small = room-more (ready-here e) in omega (arith, P.tail-room n);
               join-room = λ m.
                   subst (λ (q : ℕ → List Queued). length (join (q m) a) ≤ 8) (sym (ap (λ (s : Site). s.queue) P.site))
@@ -169,7 +170,8 @@ module _ {table schedule : List ℕ} {σ : Arrays} {actors : List Actor} {i : �
               note-room = note-more;
             }
 
-        module _ {σ' : Arrays} {t : Stepped} (T : StepTaken table a x r σ σ' t) (go : step_as t.next ≡ taken) where
+        module _ {comms' log' ends' queues' journal' : List ℕ} {s : Stepped}
+            (T : StepTaken table a x r comms log ends queues journal comms' log' ends' queues' journal' s) (go : step_as s.next ≡ taken) where
           was-ready : ready table (reached table schedule i) a ≡ true
           was-ready = ready-here (sym T.next-right ∙ go)
 
@@ -177,53 +179,53 @@ module _ {table schedule : List ℕ} {σ : Arrays} {actors : List Actor} {i : �
           room-here = room-more was-ready
 
           in-actors : a < length actors
-          in-actors = omega (arith, P.actors-room.long, P.accepted-table.actors-most)
+          in-actors = omega (arith, P.actors-long, P.accepted-table.actors-most)
 
-          stepped : site_of (set actors a t.actor) σ' ≡ step table here a
+          stepped : site_of (set actors a s.actor) comms' log' ends' queues' journal' ≡ step table here a
           unfolding step
           stepped =
-              let records : records_of (set actors a t.actor) ≡ upd eqb (records_of actors) a (local (action_of table a) x (see here a (looks x)) (record_of r)) =
-              records-set actors a t.actor in-actors
+              let records : records_of (set actors a s.actor) ≡ upd eqb (records_of actors) a (local (action_of table a) x (see here a (looks x)) (record_of r)) =
+              records-set actors a s.actor in-actors
               ∙ ap (upd eqb (records_of actors) a)
               ((T.took go).record-next
               ∙ ap (λ (found : Seen). local (action_of table a) x found (record_of r))
-              (see-own (seen_from r (held_in σ)) here a (λ k. refl) (λ m. refl) (looks x))) in
-              λ j. site_with (records j) ((T.took go).shared-next j)
+              (see-parts (seen_from r (mail_of comms log ends) (queues_of queues)) here a (looks x) refl refl)) in
+              λ j. record { actor = records j; mail = (T.took go).mail-next j; queue = (T.took go).queue-next j; journal = (T.took go).journal-next j }
 
-          eight-next : EightCells t.actor
+          eight-next : EightCells s.actor
           eight-next =
               ap (λ (q : Record). length q.cells) (T.took go).record-next
-              ∙ cells_after-length (action_of table a) x (see (seen_from r (held_in σ)) a (looks x)) r.cells
-              ∙ P.actors-room.eight a
+              ∙ cells_after-length (action_of table a) x (see (seen_from r (mail_of comms log ends) (queues_of queues)) a (looks x)) r.cells
+              ∙ P.eight a
 
-          eight-all : (j : ℕ) → EightCells (get_or (set actors a t.actor) j fresh_actor)
+          eight-all : (j : ℕ) → EightCells (get_or (set actors a s.actor) j fresh_actor)
           eight-all j = at (which (eqb j a))
             where
-              at : (eqb j a ≡ true) ⊎ (eqb j a ≡ false) → EightCells (get_or (set actors a t.actor) j fresh_actor)
+              at : (eqb j a ≡ true) ⊎ (eqb j a ≡ false) → EightCells (get_or (set actors a s.actor) j fresh_actor)
               at (inl e) =
-                  subst (λ (k : ℕ). EightCells (get_or (set actors a t.actor) k fresh_actor)) (sym (eqb-true j a e))
-                  (ap (λ (q : Actor). length q.cells) (get_or-set_same actors a t.actor fresh_actor in-actors) ∙ eight-next)
-              at (inr e) = ap (λ (q : Actor). length q.cells) (get_or-set_other actors a j t.actor fresh_actor (eqb-false j a e)) ∙ P.actors-room.eight j
+                  subst (λ (k : ℕ). EightCells (get_or (set actors a s.actor) k fresh_actor)) (sym (eqb-true j a e))
+                  (ap (λ (q : Actor). length q.cells) (get_or-set_same actors a s.actor fresh_actor in-actors) ∙ eight-next)
+              at (inr e) = ap (λ (q : Actor). length q.cells) (get_or-set_other actors a j s.actor fresh_actor (eqb-false j a e)) ∙ P.eight j
 
           small-position : r.position < 32
           small-position = omega (arith, P.accepted-table.actions-most a in_table)
 
-          pub named-next : {names' : List ℕ} → Named table schedule names' i → Named table schedule (set names' i (packed_name a r.position)) (i + 1)
+          pub named-next : {names' : List ℕ} → Named table schedule names' i → Named table schedule (set names' i (32 * a + r.position)) (i + 1)
           named-next {names'} N =
               let in-names : i < length names' = omega (arith, N.names-long, room-here) in
-              let written : take (i + 1) (set names' i (packed_name a r.position)) ≡ take i names' ++ (packed_name a r.position ∷ []) =
-              ap (λ (n : ℕ). take n (set names' i (packed_name a r.position))) (add-one i) ∙ take-suc-set names' i (packed_name a r.position) in-names in
-              let named : name_of (packed_name a r.position) ≡ name a ((reached table schedule i).actor a).position =
+              let written : take (i + 1) (set names' i (32 * a + r.position)) ≡ take i names' ++ ((32 * a + r.position) ∷ []) =
+              ap (λ (n : ℕ). take n (set names' i (32 * a + r.position))) (add-one i) ∙ take-suc-set names' i (32 * a + r.position) in-names in
+              let named : name_of (32 * a + r.position) ≡ name a ((reached table schedule i).actor a).position =
               name-byte a r.position small-position ∙ ap (λ (q : Record). name a q.position) (sym (record-reached a)) in
               record {
                 names-long = simp length-set N.names-long;
                 names-right =
-                    ap (map name_of) written ∙ map-append name_of (take i names') (packed_name a r.position ∷ [])
+                    ap (map name_of) written ∙ map-append name_of (take i names') ((32 * a + r.position) ∷ [])
                     ∙ ap₂ (λ (l : List Name) (y : Name). l ++ (y ∷ [])) N.names-right named
                     ∙ sym (ap (names (machine table) initial) one_more ∙ names_more (machine table) initial (take i schedule) a);
               }
 
-          pub playing-next : Playing table schedule σ' (set actors a t.actor) (i + 1)
+          pub playing-next : Playing table schedule comms' log' ends' queues' journal' (set actors a s.actor) (i + 1)
           playing-next =
               record {
                 accepted-table = P.accepted-table;
@@ -232,18 +234,10 @@ module _ {table schedule : List ℕ} {σ : Arrays} {actors : List Actor} {i : �
                     ∙ sym (ap (final (machine table) initial) one_more ∙ final-more (machine table) initial (take i schedule) a);
                 taken = taken_more was-ready;
                 index = omega arith;
-                actors-room = record { long = simp length-set P.actors-room.long; eight = eight-all };
-                room = T.room;
+                actors-long = simp length-set P.actors-long;
+                eight = eight-all;
+                mail-room = T.mail-room;
+                queue-room = T.queue-room;
+                journal-room = T.journal-room;
                 tail-room = λ n. omega (arith, T.grown n, P.tail-room n);
               }
-
-          -- where it says that it is quiet, nobody else has become ready
-          pub quiet-here : t.quiet ≡ true → (j : ℕ) → j ≢ a → ready table (reached table schedule i) j ≡ ready table (reached table schedule (i + 1)) j
-          quiet-here q j ne =
-              let U = T.unheard q in
-              sym (ap (λ (s : Site). ready table s j) P.site)
-              ∙ ready-own table here (site_of (set actors a t.actor) σ') j
-              (ap record_of (sym (get_or-set_other actors a j t.actor fresh_actor ne)))
-              (λ k. sym (U.comms-kept (name j k) ne))
-              (λ m. sym (U.owners-kept m j ne))
-              ∙ ap (λ (s : Site). ready table s j) playing-next.site

@@ -1,12 +1,10 @@
-// A schedule from a fresh site, lent or made: each entry's step in turn, as far as the first entry that is refused.
-ghost use Rattle.state.specs.Arrays.{behind};
-ghost use Rattle.lead.specs.Ways.{way_of, played_by};
-ghost use Rattle.play.specs.Parts.{Fresh, PlayedRight};
+// A schedule from a fresh site, a lent one or one that a policy makes: each entry's step in turn, as far as the first entry that is refused.
+ghost use Rattle.play.specs.Parts.{Fresh, PlayedRight, schedule_by, played_by};
 
 use answers::Stop;
-use lead::{Due, Lead};
-use names::{Names, STEPS};
-use state::{Actor, Actors, Comms, Ends, Journal, Log, NextStep, Queues};
+use lead::Due;
+use policy::Policy;
+use state::{Actor, NextStep};
 
 // Where a schedule halts: at its end, or at an entry that is refused.
 #[derive(Drop)]
@@ -20,44 +18,85 @@ pub enum Halt {
 pub struct Played {
     pub halt: Halt,
     pub steps: usize,
-    pub actors: Actors,
+    pub actors: [Actor; 8],
 }
 
-// Plays a lent schedule, or makes one and plays it: then nothing is lent. The arrays come fresh, and hold the end state where the schedule halts at its end;
-// `names` then holds the names of the steps run. One loop, whoever leads, so that the step stands in one place.
+// Plays a lent schedule. The arrays come fresh, and hold the end state where the schedule halts at its end; `names` then holds the names of the steps run.
 pub fn play(
     table: &[u8],
     schedule: &[u8],
-    lead: Lead,
-    comms: &mut Comms,
-    log: &mut Log,
-    ends: &mut Ends,
-    queues: &mut Queues,
-    journal: &mut Journal,
-    names: &mut Names,
+    comms: &mut [u64; 256],
+    log: &mut [u8; 4096],
+    ends: &mut [usize; 32],
+    queues: &mut [u8; 72],
+    journal: &mut [usize; 257],
+    names: &mut [u8; 256],
 ) -> Played
-    requires { Fresh table.now (behind comms log ends queues journal) names.old }
-    ensures { PlayedRight table.now (played_by table.now schedule.now (way_of lead))
-        (behind comms.exit log.exit ends.exit queues.exit journal.exit) names.new result }
+    requires { Fresh table.now comms.old log.old ends.old queues.old journal.old names.old }
+    ensures { PlayedRight table.now schedule.now comms.new log.new ends.new
+        queues.new journal.new names.new result }
+{
+    // of a lent schedule it plays no part
+    let policy = Policy::drawn(0);
+    turns(
+        table, schedule, false, policy, comms, log, ends, queues, journal, names,
+    )
+}
+
+// Makes the schedule of a policy and plays it, likewise. What stands for a lent schedule is not read.
+pub fn make(
+    table: &[u8],
+    policy: Policy,
+    comms: &mut [u64; 256],
+    log: &mut [u8; 4096],
+    ends: &mut [usize; 32],
+    queues: &mut [u8; 72],
+    journal: &mut [usize; 257],
+    names: &mut [u8; 256],
+) -> Played
+    requires { Fresh table.now comms.old log.old ends.old queues.old journal.old names.old }
+    ensures { PlayedRight table.now (schedule_by table.now policy) comms.new log.new ends.new
+        queues.new journal.new names.new result }
+{
+    turns(
+        table, table, true, policy, comms, log, ends, queues, journal, names,
+    )
+}
+
+// Plays the lent schedule, or the one that the policy makes. One loop for both, so that the step stands in one place.
+fn turns(
+    table: &[u8],
+    schedule: &[u8],
+    made: bool,
+    policy: Policy,
+    comms: &mut [u64; 256],
+    log: &mut [u8; 4096],
+    ends: &mut [usize; 32],
+    queues: &mut [u8; 72],
+    journal: &mut [usize; 257],
+    names: &mut [u8; 256],
+) -> Played
+    requires { Fresh table.now comms.old log.old ends.old queues.old journal.old names.old }
+    ensures { PlayedRight table.now (played_by table.now schedule.now made policy) comms.new log.new
+        ends.new queues.new journal.new names.new result }
 {
     let n = table::access::actors(table);
     let fresh = Actor::fresh();
     let mut actors = [fresh; 8];
-    let mut lead = lead;
+    let mut policy = policy;
     let mut mask = 0;
     let mut last = 0;
-    let mut quiet = false;
     let mut i = 0;
-    while i <= STEPS {
-        if lead::makes(lead) {
-            if quiet {
-                let own = actors[last];
+    while i < 257 {
+        if made {
+            let own = actors[last];
+            if lead::was_quiet(table, last, own) {
                 mask = readiness::own_bit(table, mask, last, own, comms, queues);
             } else {
                 mask = readiness::ready_mask(table, n, mask, last, actors, comms, queues);
             }
         }
-        let due = lead::whose_turn(schedule, i, lead, mask);
+        let due = lead::whose_turn(schedule, i, made, policy, mask);
         match due {
             Due::End => {
                 return Played {
@@ -89,11 +128,10 @@ pub fn play(
                 match next {
                     NextStep::Taken => {
                         let after = s.actor;
-                        names[i] = names::packed(a, k) as u8;
+                        names[i] = (32 * a + k) as u8;
                         actors[a] = after;
-                        lead = turn.lead;
+                        policy = turn.policy;
                         last = a;
-                        quiet = s.quiet;
                         i += 1;
                     }
                     NextStep::Waits => {

@@ -9,7 +9,6 @@ use lib.ListN.{length, length-append, length-map}
 use Rattle.trace.specs.Machine.{Name}
 use Rattle.model.specs.Report.{word, name_bytes, box_bytes}
 use Rattle.names.specs.InByte.{name_of}
-use Rattle.state.specs.Arrays.{steps, log_length}
 use Rattle.state.specs.State.{head_in, tail_in, pending_in, LogRoom}
 use Rattle.queue_sections.specs.Parts.{port_bytes, queue_of}
 use Rattle.queue_sections.proofs.Lists.{taken-length}
@@ -25,13 +24,13 @@ module _ (log ends : List ℕ) where
 
   module _ (r : LogRoom log ends) where
     -- a port's pending steps lie within the log
-    pub port-room : (port : ℕ) → port < 16 → steps * port + head_in ends port + count_in port ≤ log_length
+    pub port-room : (port : ℕ) → port < 16 → 256 * port + head_in ends port + count_in port ≤ 4096
     port-room port h = omega (arith, r.ordered port, r.bounded port)
 
     port-length : (port : ℕ) → port < 16 → length (map name_of (pending_in log ends port)) ≡ count_in port
     port-length port h =
         length-map (pending_in log ends port) name_of
-        ∙ taken-length log (steps * port + head_in ends port) (count_in port) (omega (arith, port-room port h, r.log-long))
+        ∙ taken-length log (256 * port + head_in ends port) (count_in port) (omega (arith, port-room port h, r.log-long))
 
     -- the queue's length, and the steps of both ports
     pub box-split : (m : ℕ) → m < 8 → word (count_in (2 * m) + count_in (2 * m + 1)) ++ (port_bytes log ends (2 * m) ++ port_bytes log ends (2 * m + 1)) ≡ box_bytes (queue_of log ends m)

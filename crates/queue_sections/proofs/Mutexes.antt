@@ -5,7 +5,7 @@ use mathlib.Core.List.{List, [], ◌∷◌, ◌++◌}
 use Prim.Native.Nat.{ℕ, ◌+◌, ◌*◌, ◌<◌}
 use Rattle.model.specs.Report.{queued_bytes, mutex_bytes}
 use Rattle.state.specs.State.{size_in, queues_of, QueueRoom}
-use Rattle.state.proofs.QueueLengths.{queue-length}
+use Rattle.state.proofs.Queued.{queue-length}
 use Rattle.queue_sections.specs.Parts.{entries_bytes}
 
 pub mutex-split : (queues : List ℕ) → QueueRoom queues → (m : ℕ) → m < 8

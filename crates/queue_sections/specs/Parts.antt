@@ -4,8 +4,7 @@ use Rattle.std.specs.Prelude.{ℕ, List, ◌++◌, map, take, drop}
 use Rattle.trace.specs.Machine.{Name}
 use Rattle.model.specs.Site.{sends, receives}
 use Rattle.model.specs.Report.{parts, name_bytes, box_bytes, queued_bytes, mutex_bytes}
-use Rattle.state.specs.Packed.{queued_of}
-use Rattle.state.specs.State.{pending_in, waiting_of, queues_of}
+use Rattle.state.specs.State.{pending_in, waiting_of, queued_of, queues_of}
 use Rattle.names.specs.InByte.{name_of}
 
 -- n step names of a log from a place on; those pending at a port; a mailbox's queue, which is what is pending at its two ports; the first n

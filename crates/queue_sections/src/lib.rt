@@ -2,52 +2,47 @@
 // their number.
 ghost use Rattle.std.specs.Prelude.{◌≡◌, ◌+◌, ◌-◌, ◌*◌, ◌<◌, ◌≤◌, length};
 ghost use Rattle.model.specs.Report.{box_bytes, mutex_bytes};
-ghost use Rattle.state.specs.Arrays.{log_length, ends_length, queues_length};
 ghost use Rattle.state.specs.State.{head_in, tail_in, queues_of, LogRoom, QueueRoom};
 ghost use Rattle.writing.specs.Written.{Wrote};
 ghost use Rattle.queue_sections.specs.Parts.{steps_bytes, port_bytes, queue_of, boxes_bytes, entries_bytes, mutexes_bytes};
 
-use names::STEPS;
-use state::{Ends, Log, Queues, packed};
 use table::bytes;
 
 // So many step names of the log from a place on.
-fn names(log: &Log, from: usize, count: usize, buf: &mut [u8]) -> usize
-    requires { (length log.now ≡ log_length) × (from + count ≤ log_length) × (length (steps_bytes log.now from count) ≤ length buf.old) }
+fn names(log: &[u8; 4096], from: usize, count: usize, buf: &mut [u8]) -> usize
+    requires { (length log.now ≡ 4096) × (from + count ≤ 4096) × (length (steps_bytes log.now from count) ≤ length buf.old) }
     ensures { Wrote buf.old (steps_bytes log.now from count) buf.new result }
 {
     let mut at = 0;
     let mut i = 0;
     while i < count {
-        let n = bytes::wide(log[from + i]);
-        let actor = names::actor(n);
-        let action = names::action(n);
-        at += writing::two(actor as u8, action as u8, &mut buf[at..]);
+        let n = log[from + i];
+        at += writing::two(n / 32, n % 32, &mut buf[at..]);
         i += 1;
     }
     at
 }
 
 // How many steps are pending at a port.
-fn waiting(ends: &Ends, port: usize) -> usize
-    requires { (length ends.now ≡ ends_length) × (port < 16) × (head_in ends.now port ≤ tail_in ends.now port) }
+fn waiting(ends: &[usize; 32], port: usize) -> usize
+    requires { (length ends.now ≡ 32) × (port < 16) × (head_in ends.now port ≤ tail_in ends.now port) }
     ensures { result ≡ tail_in ends.now port - head_in ends.now port }
 {
     ends[2 * port + 1] - ends[2 * port]
 }
 
 // The steps that are pending at a port.
-fn port_part(log: &Log, ends: &Ends, port: usize, buf: &mut [u8]) -> usize
+fn port_part(log: &[u8; 4096], ends: &[usize; 32], port: usize, buf: &mut [u8]) -> usize
     requires { LogRoom log.now ends.now × (port < 16) × (length (port_bytes log.now ends.now port) ≤ length buf.old) }
     ensures { Wrote buf.old (port_bytes log.now ends.now port) buf.new result }
 {
     let head = ends[2 * port];
     let count = waiting(ends, port);
-    names(log, STEPS * port + head, count, buf)
+    names(log, 256 * port + head, count, buf)
 }
 
 // A mailbox's queue: its length and its steps.
-fn box_part(log: &Log, ends: &Ends, m: usize, buf: &mut [u8]) -> usize
+fn box_part(log: &[u8; 4096], ends: &[usize; 32], m: usize, buf: &mut [u8]) -> usize
     requires { LogRoom log.now ends.now × (m < 8)
         × (length (box_bytes (queue_of log.now ends.now m)) ≤ length buf.old) }
     ensures { Wrote buf.old (box_bytes (queue_of log.now ends.now m)) buf.new result }
@@ -60,7 +55,7 @@ fn box_part(log: &Log, ends: &Ends, m: usize, buf: &mut [u8]) -> usize
 }
 
 // The mailboxes.
-pub fn boxes_part(log: &Log, ends: &Ends, count: usize, buf: &mut [u8]) -> usize
+pub fn boxes_part(log: &[u8; 4096], ends: &[usize; 32], count: usize, buf: &mut [u8]) -> usize
     requires { LogRoom log.now ends.now × (count ≤ 8)
         × (length (boxes_bytes log.now ends.now count) ≤ length buf.old) }
     ensures { Wrote buf.old (boxes_bytes log.now ends.now count) buf.new result }
@@ -75,24 +70,22 @@ pub fn boxes_part(log: &Log, ends: &Ends, count: usize, buf: &mut [u8]) -> usize
 }
 
 // So many entries of the queues from a place on: the actor and its depth.
-fn entries(queues: &Queues, from: usize, count: usize, buf: &mut [u8]) -> usize
-    requires { (length queues.now ≡ queues_length) × (from + count ≤ queues_length) × (length (entries_bytes queues.now from count) ≤ length buf.old) }
+fn entries(queues: &[u8; 72], from: usize, count: usize, buf: &mut [u8]) -> usize
+    requires { (length queues.now ≡ 72) × (from + count ≤ 72) × (length (entries_bytes queues.now from count) ≤ length buf.old) }
     ensures { Wrote buf.old (entries_bytes queues.now from count) buf.new result }
 {
     let mut at = 0;
     let mut i = 0;
     while i < count {
-        let b = queues[from + i];
-        let actor = packed::queued_actor(b);
-        let depth = packed::queued_depth(b);
-        at += writing::two(actor as u8, depth as u8, &mut buf[at..]);
+        let b = bytes::wide(queues[from + i]);
+        at += writing::two((b % 8) as u8, (b / 8 + 1) as u8, &mut buf[at..]);
         i += 1;
     }
     at
 }
 
 // A mutex's queue: its length and its entries.
-fn mutex_part(queues: &Queues, m: usize, buf: &mut [u8]) -> usize
+fn mutex_part(queues: &[u8; 72], m: usize, buf: &mut [u8]) -> usize
     requires { QueueRoom queues.now × (m < 8) × (length (mutex_bytes (queues_of queues.now m)) ≤ length buf.old) }
     ensures { Wrote buf.old (mutex_bytes (queues_of queues.now m)) buf.new result }
 {
@@ -103,7 +96,7 @@ fn mutex_part(queues: &Queues, m: usize, buf: &mut [u8]) -> usize
 }
 
 // The mutexes.
-pub fn mutexes_part(queues: &Queues, count: usize, buf: &mut [u8]) -> usize
+pub fn mutexes_part(queues: &[u8; 72], count: usize, buf: &mut [u8]) -> usize
     requires { QueueRoom queues.now × (count ≤ 8) × (length (mutexes_bytes queues.now count) ≤ length buf.old) }
     ensures { Wrote buf.old (mutexes_bytes queues.now count) buf.new result }
 {

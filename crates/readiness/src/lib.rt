@@ -1,31 +1,20 @@
-// The ready answer of a state: the mask, how many actors are ready, and the ending; and how each actor stands. What an actor's next step is depends on the
-// communications and the queues alone, so each contract holds whatever the rest of the state is.
-ghost use Rattle.std.specs.Prelude.{◌≡◌, ◌≢◌, true, cond, ◌-◌, ◌^◌, ◌<◌, ◌≤◌, length};
+// The ready answer of a state: the mask, how many actors are ready, and the ending.
+ghost use Rattle.std.specs.Prelude.{◌≡◌, ◌≢◌, true, cond, ℕ, ◌+◌, ◌-◌, ◌^◌, ◌<◌, ◌≤◌, List, length};
 ghost use Rattle.table.specs.Format.{actors_of, count_of};
 ghost use Rattle.model.specs.Ready.{bit as as_bit, bit_of, ready_mask, ready_answer};
+ghost use Rattle.readiness.specs.Parts.{Answerable, Known, Looked, step_from, looks_ready, everyone_finished, site_with};
+ghost use Rattle.state.specs.State.{step_as};
 ghost use Rattle.answers.specs.Answers.{readiness_of};
-ghost use Rattle.state.specs.Arrays.{Arrays, seen};
-ghost use Rattle.state.specs.State.{site_of, step_as};
-ghost use Rattle.readiness.specs.Parts.{Answerable, Known, Looked, step_from, looks_ready, status_as, status_from, everyone_finished};
 
 use answers::{Ending, Readiness};
-use state::{Actor, Actors, Comms, NextStep, Queues};
+use state::{Actor, NextStep};
 use table::Action;
 
-// How an actor stands.
-#[derive(Drop)]
-pub enum Status {
-    Ready,
-    Waits,
-    Over,
-    Finished,
-}
-
 // The number of actors that are ready is the number of ones in their mask.
-pub fn answer(table: &[u8], actors: Actors, comms: &Comms, queues: &Queues) -> Readiness
+pub fn answer(table: &[u8], actors: [Actor; 8], comms: &[u64; 256], queues: &[u8; 72]) -> Readiness
     requires { Answerable table.now actors comms.now queues.now }
-    ensures { (rest : Arrays) → readiness_of result
-        ≡ ready_answer table.now (site_of actors (seen comms.now queues.now rest)) }
+    ensures { (log ends journal : List ℕ) → readiness_of result
+        ≡ ready_answer table.now (site_with actors comms.now queues.now log ends journal) }
 {
     let n = table::access::actors(table);
     let mask = ready_mask(table, n, 0, 0, actors, comms, queues);
@@ -58,14 +47,14 @@ pub fn ready_mask(
     n: usize,
     known: u32,
     a: usize,
-    actors: Actors,
-    comms: &Comms,
-    queues: &Queues,
+    actors: [Actor; 8],
+    comms: &[u64; 256],
+    queues: &[u8; 72],
 ) -> u32
     requires { Answerable table.now actors comms.now queues.now × (n ≡ actors_of table.now)
         × Known table.now known a actors comms.now queues.now }
-    ensures { (rest : Arrays) → result
-        ≡ ready_mask table.now (site_of actors (seen comms.now queues.now rest)) }
+    ensures { (log ends journal : List ℕ) → result
+        ≡ ready_mask table.now (site_with actors comms.now queues.now log ends journal) }
 {
     let mut m = 0;
     let mut i = n;
@@ -82,10 +71,17 @@ pub fn ready_mask(
 }
 
 // A mask that has actor `a`, with its bit as it is now.
-pub fn own_bit(table: &[u8], mask: u32, a: usize, r: Actor, comms: &Comms, queues: &Queues) -> u32
+pub fn own_bit(
+    table: &[u8],
+    mask: u32,
+    a: usize,
+    r: Actor,
+    comms: &[u64; 256],
+    queues: &[u8; 72],
+) -> u32
     requires { Looked table.now a r comms.now queues.now × (2 ^ a ≤ mask) }
-    ensures { (rest : Arrays) → result
-        ≡ cond (looks_ready table.now a r (seen comms.now queues.now rest)) mask (mask - 2 ^ a) }
+    ensures { (log ends : List ℕ) → result
+        ≡ cond (looks_ready table.now a r comms.now queues.now log ends) mask (mask - 2 ^ a) }
 {
     if is_ready(table, a, r, comms, queues) {
         return mask;
@@ -104,44 +100,35 @@ fn is_known(known: u32, a: usize, i: usize) -> bool
     (known >> i) % 2 == 1
 }
 
-// Whether an actor is ready.
-fn is_ready(table: &[u8], a: usize, r: Actor, comms: &Comms, queues: &Queues) -> bool
+// Whether an actor is ready: not finished, and its next step is taken.
+fn is_ready(table: &[u8], a: usize, r: Actor, comms: &[u64; 256], queues: &[u8; 72]) -> bool
     requires { Looked table.now a r comms.now queues.now }
-    ensures { (rest : Arrays) → result
-        ≡ looks_ready table.now a r (seen comms.now queues.now rest) }
-{
-    let status = status_of(table, a, r, comms, queues);
-    match status {
-        Status::Ready => true,
-        Status::Waits => false,
-        Status::Over => false,
-        Status::Finished => false,
-    }
-}
-
-// An actor is finished, or stands as its next step does.
-pub fn status_of(table: &[u8], a: usize, r: Actor, comms: &Comms, queues: &Queues) -> Status
-    requires { Looked table.now a r comms.now queues.now }
-    ensures { (rest : Arrays) → status_as result
-        ≡ status_from table.now a r (seen comms.now queues.now rest) }
+    ensures { (log ends : List ℕ) → result
+        ≡ looks_ready table.now a r comms.now queues.now log ends }
 {
     let k = r.position;
     if table::access::actions(table, a) <= k {
-        return Status::Finished;
+        return false;
     }
     let next = next_step(table, a, r, comms, queues);
     match next {
-        NextStep::Taken => Status::Ready,
-        NextStep::Waits => Status::Waits,
-        NextStep::Over => Status::Over,
+        NextStep::Taken => true,
+        NextStep::Waits => false,
+        NextStep::Over => false,
     }
 }
 
 // What the next step of an actor is that is not finished.
-fn next_step(table: &[u8], a: usize, r: Actor, comms: &Comms, queues: &Queues) -> NextStep
+pub fn next_step(
+    table: &[u8],
+    a: usize,
+    r: Actor,
+    comms: &[u64; 256],
+    queues: &[u8; 72],
+) -> NextStep
     requires { Looked table.now a r comms.now queues.now × (r.position < count_of table.now a) }
-    ensures { (rest : Arrays) → step_as result
-        ≡ step_from table.now a r (seen comms.now queues.now rest) }
+    ensures { (log ends : List ℕ) → step_as result
+        ≡ step_from table.now a r comms.now queues.now log ends }
 {
     let k = r.position;
     let x = table::within::action(table, a, k);
@@ -163,7 +150,7 @@ fn bit(b: bool) -> u32
 }
 
 // Whether every actor's position has come to its number of actions.
-fn all_finished(table: &[u8], n: usize, actors: Actors) -> bool
+fn all_finished(table: &[u8], n: usize, actors: [Actor; 8]) -> bool
     requires { (n ≤ 8) × (length actors ≡ 8) }
     ensures { result ≡ everyone_finished table.now n actors }
 {

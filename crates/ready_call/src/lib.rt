@@ -5,19 +5,17 @@ ghost use Rattle.answers.specs.Answers.{ready_result};
 
 use answers::ReadyAnswer;
 use execution::Course;
-use names::STEPS;
-use state::{ENDS, JOURNAL, LOG, QUEUES};
 
 // Which actors are ready at the end of a schedule from a fresh site.
 pub fn ready(table: &[u8], schedule: &[u8]) -> ReadyAnswer
     ensures { ready_result result ≡ ready_of table.now schedule.now }
 {
-    let mut comms = [0u64; STEPS];
-    let mut log = [0u8; LOG];
-    let mut ends = [0usize; ENDS];
-    let mut queues = [0u8; QUEUES];
-    let mut journal = [0usize; JOURNAL];
-    let mut names = [0u8; STEPS];
+    let mut comms = [0u64; 256];
+    let mut log = [0u8; 4096];
+    let mut ends = [0usize; 32];
+    let mut queues = [0u8; 72];
+    let mut journal = [0usize; 257];
+    let mut names = [0u8; 256];
     let execution = execution::execute(
         table,
         schedule,

@@ -1,27 +1,26 @@
 // The state report: each section goes into the rest of the lent bytes after the section before it.
 ghost use Rattle.model.specs.Report.{report};
-ghost use Rattle.state.specs.Arrays.{behind};
 ghost use Rattle.state.specs.State.{site_of};
 ghost use Rattle.writing.specs.Written.{Wrote};
 ghost use Rattle.report.specs.Parts.{Reportable};
 
-use state::{Actors, Comms, Ends, Journal, Log, Queues};
+use state::Actor;
 use table::access;
 
 // Writes the state report into the front of the lent bytes, and answers with its length.
 pub fn write(
     table: &[u8],
-    actors: Actors,
-    comms: &Comms,
-    log: &Log,
-    ends: &Ends,
-    queues: &Queues,
-    journal: &Journal,
+    actors: [Actor; 8],
+    comms: &[u64; 256],
+    log: &[u8; 4096],
+    ends: &[usize; 32],
+    queues: &[u8; 72],
+    journal: &[usize; 257],
     buf: &mut [u8],
 ) -> usize
-    requires { Reportable table.now actors (behind comms log ends queues journal) buf.old }
+    requires { Reportable table.now actors comms.now log.now ends.now queues.now journal.now buf.old }
     ensures { Wrote buf.old
-        (report table.now (site_of actors (behind comms.entry log.entry ends.entry queues.entry journal.entry)))
+        (report table.now (site_of actors comms.now log.now ends.now queues.now journal.now))
         buf.new result }
 {
     let n = access::actors(table);
@@ -31,5 +30,5 @@ pub fn write(
     let mutexes = boxes + queue_sections::boxes_part(log, ends, m, &mut buf[boxes..]);
     let x = access::mutexes(table);
     let entries = mutexes + queue_sections::mutexes_part(queues, x, &mut buf[mutexes..]);
-    entries + journal_section::part(journal, &mut buf[entries..])
+    entries + journal::part(journal, &mut buf[entries..])
 }

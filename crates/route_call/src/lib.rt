@@ -4,14 +4,13 @@ ghost use Rattle.model.specs.Route.{most_exchanges, RightRoute};
 ghost use Rattle.answers.specs.Answers.{length_result};
 
 use answers::{LengthAnswer, Refusal, SameAnswer};
-use names::STEPS;
 
 // Writes a route from the first schedule to the second into the lent entries: a chain of exchanges, each by its position.
 pub fn route(table: &[u8], first: &[u8], second: &[u8], route: &mut [u16]) -> LengthAnswer
     ensures { RightRoute table.now first.now second.now route.old route.new (length_result result) }
 {
-    let mut names = [0u8; STEPS];
-    let mut others = [0u8; STEPS];
+    let mut names = [0u8; 256];
+    let mut others = [0u8; 256];
     let answer = comparison::compared(table, first, second, &mut names, &mut others);
     match answer {
         SameAnswer::Same(_) => {

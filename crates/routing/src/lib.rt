@@ -6,11 +6,9 @@ ghost use Rattle.writing.specs.Written.{Wrote};
 ghost use Rattle.routing.specs.Routable.{Routable};
 ghost use Rattle.routing.specs.Parts.{route_in, Bringable, Brought};
 
-use names::Names;
-
 // Writes the positions of the exchanges that turn the first list of m step names into the second, each step pulled to its place in turn, and
 // answers their number.
-pub fn route(first: &Names, second: &Names, m: usize, positions: &mut [u16]) -> usize
+pub fn route(first: &[u8; 256], second: &[u8; 256], m: usize, positions: &mut [u16]) -> usize
     requires { Routable first.now second.now m positions.old }
     ensures count { result ≡ length (route_in first.now second.now m) }
     ensures lent { positions.new ≡ route_in first.now second.now m
@@ -30,7 +28,7 @@ pub fn route(first: &Names, second: &Names, m: usize, positions: &mut [u16]) -> 
 
 // Takes the step y, which stands at b or behind it, out of the rest: the steps before it move back by one, so that what is left begins at b + 1.
 // How many they are.
-fn bring(rest: &mut Names, b: usize, y: u8) -> usize
+fn bring(rest: &mut [u8; 256], b: usize, y: u8) -> usize
     requires { Bringable rest.old b y }
     ensures { Brought rest.old rest.new b y result }
 {

@@ -5,8 +5,6 @@ ghost use Rattle.answers.specs.Answers.{length_result};
 
 use answers::{LengthAnswer, Refusal};
 use execution::Course;
-use names::STEPS;
-use state::{ENDS, JOURNAL, LOG, QUEUES};
 
 // Runs a schedule from a fresh site and writes the state report of its end into the lent bytes.
 pub fn run(table: &[u8], schedule: &[u8], report: &mut [u8]) -> LengthAnswer
@@ -16,12 +14,12 @@ pub fn run(table: &[u8], schedule: &[u8], report: &mut [u8]) -> LengthAnswer
     if report.len() < 4514 {
         return LengthAnswer::Refused(Refusal::ReportRoom);
     }
-    let mut comms = [0u64; STEPS];
-    let mut log = [0u8; LOG];
-    let mut ends = [0usize; ENDS];
-    let mut queues = [0u8; QUEUES];
-    let mut journal = [0usize; JOURNAL];
-    let mut names = [0u8; STEPS];
+    let mut comms = [0u64; 256];
+    let mut log = [0u8; 4096];
+    let mut ends = [0usize; 32];
+    let mut queues = [0u8; 72];
+    let mut journal = [0usize; 257];
+    let mut names = [0u8; 256];
     let execution = execution::execute(
         table,
         schedule,

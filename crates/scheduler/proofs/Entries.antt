@@ -2,7 +2,7 @@
 -- Assumes nothing.
 use mathlib.Core.Path.{◌≡◌, ◌∙◌, ap, sym}
 use mathlib.Core.List.{List, [], ◌∷◌, ◌++◌, map, append_assoc, map-append, map-map}
-use Prim.Native.Nat.{ℕ, suc, ◌+◌, ◌<◌, ◌≤◌}
+use Prim.Native.Nat.{ℕ, suc, ◌+◌, ◌/◌, ◌<◌, ◌≤◌}
 use native.Mathlib.Numerals.{add-one}
 use native.Mathlib.Omega.{arith}
 use lib.ListN.{length, get_or, set, take, drop, length-map}
@@ -13,11 +13,14 @@ use Rattle.trace.proofs.Run.{actors}
 use Rattle.model.specs.Site.{initial}
 use Rattle.model.specs.Schedule.{machine}
 use Rattle.names.specs.InByte.{name_of}
-use Rattle.scheduler.specs.Parts.{actor_in, actors_in}
+
+-- the actor of a name in a byte
+abbrev pub actor_in : ℕ → ℕ
+actor_in x = x / 32
 
 -- the actors of the first i names are written
 abbrev pub written : (held before : List ℕ) (i : ℕ) → List ℕ
-written held before i = actors_in i held ++ drop i before
+written held before i = map actor_in (take i held) ++ drop i before
 
 front_long : (held : List ℕ) (i : ℕ) → i ≤ length held → length (map actor_in (take i held)) ≡ i
 front_long held i h = length-map (take i held) actor_in ∙ length-take-le i held h
@@ -37,6 +40,6 @@ written_next held before i h k =
 
 -- the names of a schedule's steps give it back
 pub entries-back : (table schedule held : List ℕ) (n : ℕ) → map name_of (take n held) ≡ names (machine table) initial schedule
-    → actors_in n held ≡ schedule
+    → map actor_in (take n held) ≡ schedule
 entries-back table schedule held n e =
     sym (map-map (λ (x : Name). x.actor) name_of (take n held)) ∙ ap (map (λ (x : Name). x.actor)) e ∙ actors (machine table) initial schedule

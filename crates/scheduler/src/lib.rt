@@ -1,20 +1,17 @@
-// Makers of schedules: one turn after another, by who leads, until nobody is ready.
-ghost use Rattle.std.specs.Prelude.{◌≡◌, ◌++◌, ◌≤◌, length, drop};
+// Makers of schedules: one turn after another, by a policy, until nobody is ready.
+ghost use Rattle.std.specs.Prelude.{◌≡◌, ◌++◌, map, ℕ, ◌/◌, ◌≤◌, length, take, drop};
+ghost use Rattle.model.specs.Scheduler.{maker_of};
 ghost use Rattle.answers.specs.Answers.{length_result};
-ghost use Rattle.state.specs.Arrays.{steps};
-ghost use Rattle.lead.specs.Ways.{way_of};
-ghost use Rattle.scheduler.specs.Parts.{made_by, actors_in};
+ghost use Rattle.policy.specs.Parts.{rule_of, kept_of};
 
 use answers::{LengthAnswer, Refusal};
-use lead::Lead;
-use names::{Names, STEPS};
-use state::{ENDS, JOURNAL, LOG, QUEUES};
-use table::{Reading, bytes};
+use policy::Policy;
+use table::Reading;
 
-// Makes the schedule of who leads from a fresh site, and writes its entries into the lent bytes.
-pub fn schedule(table: &[u8], lead: Lead, entries: &mut [u8]) -> LengthAnswer
-    ensures answer { length_result result ≡ (made_by (way_of lead) table.now entries.old).result }
-    ensures lent { entries.new ≡ (made_by (way_of lead) table.now entries.old).lent }
+// Makes the schedule of a policy from a fresh site and writes its entries into the lent bytes.
+pub fn schedule(table: &[u8], policy: Policy, entries: &mut [u8]) -> LengthAnswer
+    ensures answer { length_result result ≡ (maker_of (rule_of policy) table.now (kept_of policy) entries.old).result }
+    ensures lent { entries.new ≡ (maker_of (rule_of policy) table.now (kept_of policy) entries.old).lent }
 {
     if entries.len() < 256 {
         return LengthAnswer::Refused(Refusal::ScheduleRoom);
@@ -23,16 +20,15 @@ pub fn schedule(table: &[u8], lead: Lead, entries: &mut [u8]) -> LengthAnswer
     let Reading::Valid = reading else {
         return LengthAnswer::Refused(Refusal::Table(reading));
     };
-    let mut comms = [0u64; STEPS];
-    let mut log = [0u8; LOG];
-    let mut ends = [0usize; ENDS];
-    let mut queues = [0u8; QUEUES];
-    let mut journal = [0usize; JOURNAL];
-    let mut names = [0u8; STEPS];
-    let played = play::play(
+    let mut comms = [0u64; 256];
+    let mut log = [0u8; 4096];
+    let mut ends = [0usize; 32];
+    let mut queues = [0u8; 72];
+    let mut journal = [0usize; 257];
+    let mut names = [0u8; 256];
+    let played = play::make(
         table,
-        b"",
-        lead,
+        policy,
         &mut comms,
         &mut log,
         &mut ends,
@@ -46,13 +42,13 @@ pub fn schedule(table: &[u8], lead: Lead, entries: &mut [u8]) -> LengthAnswer
 }
 
 // The actors of n step names, in front of the lent bytes.
-fn write(names: &Names, n: usize, entries: &mut [u8])
-    requires { (length names.now ≡ steps) × (n ≤ steps) × (steps ≤ length entries.old) }
-    ensures { entries.new ≡ actors_in n names.now ++ drop n entries.old }
+fn write(names: &[u8; 256], n: usize, entries: &mut [u8])
+    requires { (length names.now ≡ 256) × (n ≤ 256) × (256 ≤ length entries.old) }
+    ensures { entries.new ≡ map (λ (x : ℕ). x / 32) (take n names.now) ++ drop n entries.old }
 {
     let mut i = 0;
     while i < n {
-        entries[i] = names::actor(bytes::wide(names[i])) as u8;
+        entries[i] = names[i] / 32;
         i += 1;
     }
 }

@@ -1,5 +1,4 @@
 -- Laws of the arrays that belong to no one function.
 pub mod Within
-pub mod Codes
-pub mod QueueLengths
+pub mod Queued
 pub mod Cells

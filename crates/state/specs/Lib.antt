@@ -1,4 +1,2 @@
 -- The state in arrays, and the site of the model that the arrays hold.
-pub mod Packed
-pub mod Arrays
 pub mod State

@@ -1,48 +1,9 @@
-// The state in arrays: how long they are and what a number in them stands for, an actor's record and its local steps, and what its next step is.
-// `specs/State` says which site of the model the arrays hold.
+// The state in arrays: an actor's record and its local steps, and what its next step is. `specs/State` says which site of the model the arrays hold.
 ghost use Rattle.std.specs.Prelude.{◌≡◌, cond, ◌+◌, ◌<◌, ◌≤◌, min, ltb, length, get_or, set};
 ghost use Rattle.table.specs.declared.Action.TheVariants.{Add};
 ghost use Rattle.model.specs.Views.{total, largest, runs_over};
 ghost use Rattle.model.specs.Step.{taken, over};
 ghost use Rattle.state.specs.State.{fresh_actor, step_as};
-
-use names::STEPS;
-
-pub mod packed;
-
-// The communications, by step names.
-pub type Comms = [u64; STEPS];
-
-// A log for each of two ports of eight mailboxes.
-pub const LOG: usize = 16 * STEPS;
-
-pub type Log = [u8; LOG];
-
-// A head and a tail for each port.
-pub const ENDS: usize = 32;
-
-pub type Ends = [usize; ENDS];
-
-// A length and eight entries for each of eight mutexes.
-pub const QUEUES: usize = 72;
-
-pub type Queues = [u8; QUEUES];
-
-// The number of entries, and the entries.
-pub const JOURNAL: usize = 1 + STEPS;
-
-pub type Journal = [usize; JOURNAL];
-
-// The actors' records.
-pub type Actors = [Actor; 8];
-
-// A communication, unpacked.
-#[derive(Drop)]
-pub enum Communication {
-    Unposted,
-    Pending(u32),
-    Done { partner: usize, value: u32 },
-}
 
 // An actor's record: its eight cells, and the number of its next action.
 #[derive(Drop)]

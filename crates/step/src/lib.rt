@@ -6,19 +6,16 @@ ghost use Rattle.table.specs.Promise.{WellFormed};
 ghost use Rattle.model.specs.Local.{pick_up_seen, place_seen};
 ghost use Rattle.look.specs.Parts.{seen_of};
 ghost use Rattle.step.specs.Parts.{Steppable, StepTaken, Added, Picks, SmallPlace};
-ghost use Rattle.state.specs.Arrays.{behind};
 ghost use Rattle.state.specs.State.{next_of};
 
 use look::Seen;
-use state::{Actor, Comms, Ends, Journal, Log, NextStep, Queues};
+use state::{Actor, NextStep};
 use table::Action;
 
-// What an actor's next step was; where it was taken, its record after it, and whether it is quiet: it has
-// ended nobody else's wait.
+// What an actor's next step was, and its record after it where it was taken.
 #[derive(Drop)]
 pub struct Stepped {
     pub next: NextStep,
-    pub quiet: bool,
     pub actor: Actor,
 }
 
@@ -26,45 +23,41 @@ pub fn step(
     table: &[u8],
     a: usize,
     r: Actor,
-    comms: &mut Comms,
-    log: &mut Log,
-    ends: &mut Ends,
-    queues: &mut Queues,
-    journal: &mut Journal,
+    comms: &mut [u64; 256],
+    log: &mut [u8; 4096],
+    ends: &mut [usize; 32],
+    queues: &mut [u8; 72],
+    journal: &mut [usize; 257],
 ) -> Stepped
-    requires { Steppable table.now a r (behind comms log ends queues journal) }
+    requires { Steppable table.now a r comms.old log.old ends.old queues.old journal.old }
     ensures { StepTaken table.now a (next_of table.now a r) r
-        (behind comms.entry log.entry ends.entry queues.entry journal.entry)
-        (behind comms.exit log.exit ends.exit queues.exit journal.exit) result }
+        comms.old log.old ends.old queues.old journal.old
+        comms.new log.new ends.new queues.new journal.new result }
 {
     let k = r.position;
     let x = table::within::action(table, a, k);
     match x {
         Action::Set { cell, value } => Stepped {
             next: NextStep::Taken,
-            quiet: true,
             actor: r.put(cell, value).next(),
         },
         Action::Add { cell, other } => added(r, cell, other),
         Action::Lesser { cell, other } => Stepped {
             next: NextStep::Taken,
-            quiet: true,
             actor: r.lesser(cell, other).next(),
         },
         Action::Send { mailbox, cell } => {
             let value = r.cells[cell];
-            let alone = mail::send(comms, log, ends, names::packed(a, k), mailbox, value);
+            mail::send(comms, log, ends, 32 * a + k, mailbox, value);
             Stepped {
                 next: NextStep::Taken,
-                quiet: alone,
                 actor: r.next(),
             }
         }
         Action::Receive { mailbox, cell: _ } => {
-            let alone = mail::receive(comms, log, ends, names::packed(a, k), mailbox);
+            mail::receive(comms, log, ends, 32 * a + k, mailbox);
             Stepped {
                 next: NextStep::Taken,
-                quiet: alone,
                 actor: r.next(),
             }
         }
@@ -72,7 +65,6 @@ pub fn step(
             let seen = look::communications(comms, a, list);
             Stepped {
                 next: NextStep::Taken,
-                quiet: true,
                 actor: told(picked(table, a, r, seen), result, seen),
             }
         }
@@ -80,7 +72,6 @@ pub fn step(
             let seen = look::communications(comms, a, list);
             Stepped {
                 next: look::awaited(seen),
-                quiet: true,
                 actor: told(picked(table, a, r, seen), result, seen),
             }
         }
@@ -88,15 +79,13 @@ pub fn step(
             mutex::join(queues, mutex, a);
             Stepped {
                 next: NextStep::Taken,
-                quiet: true,
                 actor: r.next(),
             }
         }
         Action::Unlock { mutex } => {
-            let kept = mutex::leave(queues, mutex, a);
+            mutex::leave(queues, mutex, a);
             Stepped {
                 next: NextStep::Taken,
-                quiet: kept,
                 actor: r.next(),
             }
         }
@@ -104,7 +93,6 @@ pub fn step(
             let seen = look::mutexes(queues, a, list);
             Stepped {
                 next: NextStep::Taken,
-                quiet: true,
                 actor: told(r, result, seen),
             }
         }
@@ -112,16 +100,14 @@ pub fn step(
             let seen = look::mutexes(queues, a, list);
             Stepped {
                 next: look::awaited(seen),
-                quiet: true,
                 actor: told(r, result, seen),
             }
         }
         Action::Note { cell } => {
             let value = r.cells[cell];
-            journal::add(journal, names::packed(a, k), value);
+            journal::add(journal, 32 * a + k, value);
             Stepped {
                 next: NextStep::Taken,
-                quiet: true,
                 actor: r.next(),
             }
         }
@@ -136,13 +122,11 @@ fn added(r: Actor, cell: usize, other: usize) -> Stepped
     if r.runs_over(cell, other) {
         return Stepped {
             next: NextStep::Over,
-            quiet: true,
             actor: r,
         };
     }
     Stepped {
         next: NextStep::Taken,
-        quiet: true,
         actor: r.add(cell, other).next(),
     }
 }

@@ -110,3 +110,9 @@ pub fn ended(label: &[u8], x: u32, buf: &mut [u8]) -> usize
     buf[at] = b'\n';
     at + 1
 }
+
+pub fn wide(x: u8) -> u32
+    ensures { result ≡ x }
+{
+    x as u32
+}

@@ -1,7 +1,7 @@
 -- `actor_sections::own_part` meets its contract. The loop's invariant: the first k actions are written. Assumes nothing.
 use mathlib.Core.Path.{subst}
 use mathlib.Core.List.{List}
-use Prim.Native.Nat.{ℕ, ◌-◌, ◌<◌, ◌≤◌}
+use Prim.Native.Nat.{ℕ, ◌+◌, ◌-◌, ◌*◌, ◌<◌, ◌≤◌}
 use native.Mathlib.Omega.{arith}
 use borrow.Author.Rules.{rules}
 use lib.ListN.{length}
@@ -28,53 +28,50 @@ decreases-loop comms actor count buf₀ at₀ k₀ buf at k = count - k
 loop-holds : tie.Need-loop-init invariant-loop decreases-loop
 loop-holds c = first-turn c.before.requires.3
 
-packed-requires : tie.Need-packed-requires invariant-loop decreases-loop
-packed-requires c κs = search rules
-
 mul-c : tie.Need-overflow-mul-c invariant-loop decreases-loop
 mul-c c = search rules
+
+add-c : tie.Need-overflow-add-c invariant-loop decreases-loop
+add-c c = search rules
+
+mul-c-2 : tie.Need-overflow-mul-c-2 invariant-loop decreases-loop
+mul-c-2 c = search rules
 
 element-copy-out-c : tie.Need-element-copy-out-c invariant-loop decreases-loop
 element-copy-out-c c = search rules
 
 sub-comm-part : tie.Need-overflow-sub-comm-part invariant-loop decreases-loop
-sub-comm-part c = next-at c.before.before.before.loop.invariant c.before.before.loop-test.true
+sub-comm-part c = next-at c.before.before.loop.invariant c.before.loop-test.true
 
 part-comm-part-start : tie.Need-slice-bounds-comm-part-start invariant-loop decreases-loop
-part-comm-part-start c = next-at c.before.before.before.loop.invariant c.before.before.loop-test.true
+part-comm-part-start c = next-at c.before.before.loop.invariant c.before.loop-test.true
 
 part-comm-part-end : tie.Need-slice-bounds-comm-part-end invariant-loop decreases-loop
 part-comm-part-end c = search rules
 
 comm-part-requires : tie.Need-comm-part-requires invariant-loop decreases-loop
 comm-part-requires c κs =
-    let p = c.before.before in
-    let t = p.before in
+    let t = c.before.before in
     let s = t.before.before.before in
     let l = t.before.loop in (
-      s.requires.0.valued p.packed.result,
+      s.requires.0.valued (32 * s.args.actor + l.k),
       subst (λ (n : ℕ). n ≤ length (rest l.at l.buf)) (comm-length (comms_of s.args.comms.now (name s.args.actor l.k))) (next-room l.invariant t.loop-test.true),
     )
 
--- the loop's turn, and what it wrote, in the model's words
-abbrev turn : (c : tie.After-slice-known2 invariant-loop decreases-loop) → tie.In-loop invariant-loop decreases-loop
-turn c = c.before.before.before.before.before.before
-
-wrote : (c : tie.After-slice-known2 invariant-loop decreases-loop) → let t = turn c in let s = t.before.before.before in let l = t.before.loop in let n = c.before.before.comm-part in
+-- what the turn wrote, in the model's words
+wrote : (c : tie.After-slice-known2 invariant-loop decreases-loop) → let s = c.before.before.before.before.before.before.before.before in let l = c.before.before.before.before.before.before.loop in let n = c.before.before.comm-part in
     Wrote (rest l.at l.buf) (action s.args.comms.now s.args.actor l.k) n.new.1.0 n.result
 wrote c =
-    let t = turn c in
-    let s = t.before.before.before in
-    let l = t.before.loop in
+    let s = c.before.before.before.before.before.before.before.before in
+    let l = c.before.before.before.before.before.before.loop in
     let n = c.before.before.comm-part in
-    let small : l.k < 32 = omega (arith, t.loop-test.taken, s.pre.2) in
-    let place = c.before.before.before.before.before.packed.ensures.0 in
-    subst (λ (t : List ℕ). Wrote (rest l.at l.buf) t n.new.1.0 n.result) (comm-at s.args.comms.now s.args.actor l.k place small) n.ensures
+    let small : l.k < 32 = omega (arith, c.before.before.before.before.before.loop-test.true, s.requires.2) in
+    subst (λ (t : List ℕ). Wrote (rest l.at l.buf) t n.new.1.0 n.result) (comm-at s.args.comms.now s.args.actor l.k small) n.ensures
 
 add_at : tie.Need-overflow-add-at invariant-loop decreases-loop
 add_at c =
-    let t = turn c in
-    omega (arith, next-sum t.before.loop.inv t.loop-test.taken (wrote c).0)
+    let t = c.before.before.before.before.before in
+    omega (arith, next-sum t.before.loop.invariant t.loop-test.true (wrote c).0)
 
 add-k : tie.Need-overflow-add-k invariant-loop decreases-loop
 add-k c = search rules
@@ -84,8 +81,8 @@ loop-less c = search rules
 
 loop-again : tie.Need-loop-preserved invariant-loop decreases-loop
 loop-again c =
-    let t = turn c in
-    next-turn t.before.loop.inv t.loop-test.taken (wrote c)
+    let t = c.before.before.before.before.before in
+    next-turn t.before.loop.invariant t.loop-test.true (wrote c)
 
 same_length : tie.Need-same-length invariant-loop decreases-loop
 same_length c = all-length c.before.loop.invariant c.loop-test.false
@@ -100,8 +97,9 @@ own-part-spec =
     invariant-loop
     decreases-loop
     loop-holds
-    packed-requires
     mul-c
+    add-c
+    mul-c-2
     element-copy-out-c
     sub-comm-part
     part-comm-part-start

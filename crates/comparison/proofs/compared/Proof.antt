@@ -13,7 +13,6 @@ use Rattle.table.proofs.Checks.{then-refused}
 use Rattle.answers.proofs.Stops.{stop-refused}
 use Rattle.comparison.proofs.SameOutcomes.{compared-refused, first-refused}
 use borrow.Author.Rules.{rules}
-use Rattle.state.specs.Arrays.{log_length, journal_length}
 use Rattle.comparison.proofs.compared.Statement.{statement}
 use Rattle.comparison.proofs.compared.Tie as tie
 
@@ -31,7 +30,7 @@ trace-of-requires : tie.Need-trace-of-requires
 trace-of-requires c κs =
     let s = c.before.before.before.before.before.before.before.before.before in (
       c.before.before.before.before.before.read.ensures.1 c.before.before.before.enum_told.given.1,
-      record { log-long = length-replicate {A = ℕ} log_length 0; journal-long = length-replicate {A = ℕ} journal_length 0 },
+      record { log-long = length-replicate {A = ℕ} 4096 0; journal-long = length-replicate {A = ℕ} 257 0 },
       s.requires.0,
     )
 

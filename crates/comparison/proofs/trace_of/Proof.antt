@@ -34,7 +34,7 @@ returns c =
     record {
       halted = λ n. c.play.ensures.halted n;
       kept = λ e. let E = c.play.ensures.ended e in record { entries-most = E.entries-most; bytes-long = E.names-long; names-right = E.names-right };
-      handed = λ e. let E = c.play.ensures.ended e in record { log-long = E.room.mail.log-room.log-long; journal-long = E.room.journal.long };
+      handed = λ e. let E = c.play.ensures.ended e in record { log-long = E.mail-room.log-room.log-long; journal-long = E.journal-room.long };
     }
 
 pub trace-of-spec : {M : Type 1} → statement M

@@ -2,9 +2,7 @@
 -- Assumes nothing.
 use Prim.Native.Nat.{◌-◌}
 use native.Mathlib.Omega.{arith}
-use mathlib.Core.Path.{refl, sym, subst}
-use Rattle.names.specs.Steps.{Stands}
-use Rattle.equivalence.proofs.Unpacked.{unpacked}
+use mathlib.Core.Path.{refl}
 use Rattle.equivalence.proofs.Searching.{fewer, Searching, search-begins, search-next, search-finds, search-ends}
 use borrow.Author.Rules.{rules}
 use Rattle.equivalence.proofs.searched.Statement.{statement}
@@ -39,46 +37,33 @@ element-copy-out-place c =
     let s = c.before.before.before.before.before in
     omega (arith, c.before.before.loop-test.true, s.requires.first-long, s.requires.places-long, s.requires.most)
 
-actor-requires : tie.Need-actor-requires invariant-loop decreases-loop
-actor-requires c κs = search rules
-
-action-requires : tie.Need-action-requires invariant-loop decreases-loop
-action-requires c κs = search rules
-
 pass-requires : tie.Need-pass-requires invariant-loop decreases-loop
 pass-requires c κs =
-    let k = c.before.before in
-    let a = k.before in
-    let turn = a.before.before.before.before in
-    let s = turn.before.before.before in
-    let named = unpacked a.before.before.wide.ensures.0 a.actor.ensures.0 k.action.ensures.0 in
-    (s.requires.accepted, subst (Stands s.args.table.now) (sym named) (s.requires.stand turn.before.loop.j turn.loop-test.true), turn.before.loop.invariant.rooms)
+    let s = c.before.before.before.before.before.before.before.before in
+    (s.requires.accepted, rw c.before.before.before.wide.ensures.0 (s.requires.stand c.before.before.before.before.before.before.loop.j c.before.before.before.before.before.loop-test.true), c.before.before.before.before.before.before.loop.invariant.rooms)
 
 earliest-requires : tie.Need-earliest-requires invariant-loop decreases-loop
-earliest-requires c κs = fewer c.before.before.before.before.before.before.before.before.before.before.before.before.requires c.before.before.before.before.before.before.before.before.before.loop-test.true
+earliest-requires c κs = fewer c.before.before.before.before.before.before.before.before.before.before.requires c.before.before.before.before.before.before.before.loop-test.true
 
 add-t24 : tie.Need-overflow-add-t24 invariant-loop decreases-loop
-add-t24 c = omega (arith, c.before.before.before.before.before.before.before.before.before.before.before.loop.invariant.few, c.before.before.before.before.before.before.before.before.before.before.before.before.before.requires.most, c.before.before.before.before.before.before.before.before.before.before.loop-test.true, c.earliest.ensures.most)
+add-t24 c = omega (arith, c.before.before.before.before.before.before.before.before.before.loop.invariant.few, c.before.before.before.before.before.before.before.before.before.before.before.requires.most, c.before.before.before.before.before.before.before.before.loop-test.true, c.earliest.ensures.most)
 
 add-t25 : tie.Need-overflow-add-t25 invariant-loop decreases-loop
-add-t25 c = omega (arith, c.before.before.before.before.before.before.before.before.before.before.before.loop.invariant.few, c.before.before.before.before.before.before.before.before.before.before.before.before.before.requires.most, c.before.before.before.before.before.before.before.before.before.before.loop-test.true, c.earliest.ensures.most)
+add-t25 c = omega (arith, c.before.before.before.before.before.before.before.before.before.loop.invariant.few, c.before.before.before.before.before.before.before.before.before.before.before.requires.most, c.before.before.before.before.before.before.before.before.loop-test.true, c.earliest.ensures.most)
 
 cast-t26 : tie.Need-overflow-cast-t26 invariant-loop decreases-loop
-cast-t26 c = omega (arith, c.before.before.before.before.before.before.before.before.before.before.before.loop.invariant.few, c.before.before.before.before.before.before.before.before.before.before.before.before.before.requires.most, c.before.before.before.before.before.before.before.before.before.before.loop-test.true, c.earliest.ensures.most)
+cast-t26 c = omega (arith, c.before.before.before.before.before.before.before.before.before.loop.invariant.few, c.before.before.before.before.before.before.before.before.before.before.before.requires.most, c.before.before.before.before.before.before.before.before.loop-test.true, c.earliest.ensures.most)
 
 returns : tie.Need-returns invariant-loop decreases-loop
 returns c =
-    let start = c.before.before.before.before.before.before.before.before.before.before.before.before.before in
+    let start = c.before.before.before.before.before.before.before.before.before.before.before in
     let x = start.args in
-    let turn = c.before.before.before.before.before.before.before.before.before.before in
-    let k = c.before.before.before.before.before in
-    let a = k.before in
-    let named = unpacked a.before.before.wide.ensures.0 a.actor.ensures.0 k.action.ensures.0 in
+    let turn = c.before.before.before.before.before.before.before.before in
     search-finds x.table.now x.first.now x.places.now x.m start.requires turn.before.loop.invariant turn.loop-test.true
-    named c.before.before.pass.ensures c.before.if1.true c.earliest.ensures _ refl refl
+    c.before.before.before.before.before.before.wide.ensures.0 c.before.before.pass.ensures c.before.if1.true c.earliest.ensures _ refl refl
 
 add-pairs : tie.Need-overflow-add-pairs invariant-loop decreases-loop
-add-pairs c = omega (arith, c.before.before.before.before.before.before.before.before.before.before.loop.invariant.few, c.before.before.before.before.before.before.before.before.before.before.before.before.requires.most, c.before.before.before.before.before.before.before.before.before.loop-test.true)
+add-pairs c = omega (arith, c.before.before.before.before.before.before.before.before.loop.invariant.few, c.before.before.before.before.before.before.before.before.before.before.requires.most, c.before.before.before.before.before.before.before.loop-test.true)
 
 add-j : tie.Need-overflow-add-j invariant-loop decreases-loop
 add-j c = omega arith
@@ -88,14 +73,11 @@ loop-less c = omega arith
 
 loop-again : tie.Need-loop-preserved invariant-loop decreases-loop
 loop-again c =
-    let start = c.before.before.before.before.before.before.before.before.before.before.before.before in
+    let start = c.before.before.before.before.before.before.before.before.before.before in
     let x = start.args in
-    let turn = c.before.before.before.before.before.before.before.before.before in
-    let k = c.before.before.before.before in
-    let a = k.before in
-    let named = unpacked a.before.before.wide.ensures.0 a.actor.ensures.0 k.action.ensures.0 in
+    let turn = c.before.before.before.before.before.before.before in
     search-next x.table.now x.first.now x.places.now x.m start.requires turn.before.loop.invariant turn.loop-test.true
-    named c.before.pass.ensures c.if1.false
+    c.before.before.before.before.before.wide.ensures.0 c.before.pass.ensures c.if1.false
 
 cast-t27 : tie.Need-overflow-cast-t27 invariant-loop decreases-loop
 cast-t27 c = omega (arith, c.before.loop.invariant.few, c.before.loop.invariant.most, c.before.before.before.requires.most)
@@ -116,8 +98,6 @@ searched-spec =
     wide-requires
     mul-place
     element-copy-out-place
-    actor-requires
-    action-requires
     pass-requires
     earliest-requires
     add-t24

@@ -3,7 +3,7 @@
 use mathlib.Core.Path.{◌∙◌, ap}
 use borrow.Author.Rules.{rules}
 use Rattle.model.specs.Ready.{ready_answer}
-use Rattle.execution.proofs.Ends.{end_arrays, answerable}
+use Rattle.execution.proofs.Ends.{answerable}
 use Rattle.listing.proofs.Outcomes.{wrote-refusal, wrote-run, held-long}
 use Rattle.listing.proofs.write.Statement.{statement}
 use Rattle.listing.proofs.write.Tie as tie
@@ -46,7 +46,7 @@ returns c =
     let a = c.before.before.before.before.before.answer in
     let w = c.before.before.run in (
       wrote-run s.args.table.now s.args.schedule.now s.args.out.now w.new.1.1.1.0 w.result x.new.1.1.1.1.1.1.1.0 a.result E.checked E.end.names-right
-          (a.ensures (end_arrays E) ∙ ap (ready_answer s.args.table.now) E.end.site)
+          (a.ensures x.new.1.1.1.0 x.new.1.1.1.1.0 x.new.1.1.1.1.1.1.0 ∙ ap (ready_answer s.args.table.now) E.end.site)
           w.ensures.0,
       w.ensures.1,
     )

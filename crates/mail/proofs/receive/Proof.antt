@@ -1,4 +1,4 @@
--- `mail::receive` meets its contract: what it does to the arrays is the model's `meet` (`Meets`).
+-- `mail::receive` meets its contract: what it does to the arrays is the model's `meet` (`MailMeets`).
 -- Assumes nothing.
 use Prim.Native.Nat.{◌+◌, ◌*◌}
 use native.Mathlib.Omega.{arith}
@@ -54,9 +54,9 @@ returns c =
     let e = c.before.before.before.before.before.before.before.before.before.before in
     let t = c.before.before.before.before.take-oldest in
     let v = c.before.before.carried in
-    pair-posted e.requires.0 e.args.me 0 e.requires.1 (receives_at e.args.m) (2 * e.args.m) (omega arith) (omega arith)
-    c.before.before.before.before.before.before.before.if1.true t.result t.ensures.0 t.ensures.1 v.result v.ensures
-    v.type-inv c.settle.ensures t.ensures.2
+    pair-posted _ _ _ e.requires.0 e.args.me 0 e.requires.1 (receives_at e.args.m) (2 * e.args.m) (omega arith) (omega arith)
+    c.before.before.before.before.before.before.before.if1.true t.result t.ensures.0 t.ensures.1 v.result v.ensures.0
+    v.ensures.1 c.settle.ensures t.ensures.2
 
 mul-join : tie.Need-overflow-mul-join
 mul-join c = search rules
@@ -70,7 +70,7 @@ join-requires c κs = search rules
 returns-2 : tie.Need-returns-2
 returns-2 c =
     let e = c.before.before.before.before.before.before.before in
-    join-posted e.requires.0 e.args.me 0 e.requires.1 (receives_at e.args.m) (2 * e.args.m + 1) (2 * e.args.m) (omega arith)
+    join-posted _ _ _ e.requires.0 e.args.me 0 e.requires.1 (receives_at e.args.m) (2 * e.args.m + 1) (2 * e.args.m) (omega arith)
     (omega arith) (omega arith) (omega arith) (omega arith) e.requires.3 c.before.before.before.before.if1.false
     c.join.ensures.0 c.join.ensures.1 c.join.ensures.2
 

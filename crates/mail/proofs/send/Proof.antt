@@ -1,4 +1,4 @@
--- `mail::send` meets its contract: what it does to the arrays is the model's `meet` (`Meets`).
+-- `mail::send` meets its contract: what it does to the arrays is the model's `meet` (`MailMeets`).
 -- Assumes nothing.
 use Prim.Native.Nat.{◌+◌, ◌*◌}
 use mathlib.Core.Path.{refl}
@@ -48,7 +48,7 @@ returns : tie.Need-returns
 returns c =
     let e = c.before.before.before.before.before.before.before.before in
     let t = c.before.before.take-oldest in
-    pair-posted e.requires.0 e.args.me e.args.value e.requires.1 (sends_at e.args.m) (2 * e.args.m + 1) (omega arith) (omega arith)
+    pair-posted _ _ _ e.requires.0 e.args.me e.args.value e.requires.1 (sends_at e.args.m) (2 * e.args.m + 1) (omega arith) (omega arith)
     c.before.before.before.before.before.if1.true t.result t.ensures.0 t.ensures.1 e.args.value refl e.ranges.value.fits
     c.settle.ensures t.ensures.2
 
@@ -61,7 +61,7 @@ join-requires c κs = search rules
 returns-2 : tie.Need-returns-2
 returns-2 c =
     let e = c.before.before.before.before.before.before.before in
-    join-posted e.requires.0 e.args.me e.args.value e.requires.1 (sends_at e.args.m) (2 * e.args.m) (2 * e.args.m + 1) (omega arith)
+    join-posted _ _ _ e.requires.0 e.args.me e.args.value e.requires.1 (sends_at e.args.m) (2 * e.args.m) (2 * e.args.m + 1) (omega arith)
     (omega arith) (omega arith) (omega arith) e.ranges.value.fits e.requires.3 c.before.before.before.before.if1.false
     c.join.ensures.0 c.join.ensures.1 c.join.ensures.2
 

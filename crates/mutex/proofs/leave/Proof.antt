@@ -1,4 +1,4 @@
--- `mutex::leave` meets its contract: nothing changes, an entry is one less deep, or those behind move up.
+-- `mutex::leave` meets its contract: nothing changes, a byte falls by 8, or those behind move up.
 -- Assumes nothing.
 use native.Mathlib.Omega.{arith}
 use borrow.Author.Rules.{rules}
@@ -18,6 +18,9 @@ element-copy-out-wide c = search rules
 wide-requires : tie.Need-wide-requires
 wide-requires c κs = search rules
 
+cast-place : tie.Need-overflow-cast-place
+cast-place c = search rules
+
 place-requires : tie.Need-place-requires
 place-requires c κs =
     let s = c.before.before.before in
@@ -28,44 +31,34 @@ returns c =
     let s = c.before.before.before.before.before in
     let x = s.args in
     let n = c.before.before.before.wide in
-    let i = c.before.place in
-    stays x.queues.now x.m x.a s.requires.0 s.requires.1 n.result n.ensures.0 i.result i.ensures
+    stays x.queues.now x.m x.a s.requires.0 s.requires.1 n.result n.ensures.0 c.before.place.result c.before.place.ensures
     c.if1.true
 
-add-queued-depth : tie.Need-overflow-add-queued-depth
-add-queued-depth c = search rules
+add-b : tie.Need-overflow-add-b
+add-b c = search rules
 
-element-copy-out-queued-depth : tie.Need-element-copy-out-queued-depth
-element-copy-out-queued-depth c =
+element-copy-out-b : tie.Need-element-copy-out-b
+element-copy-out-b c =
     let s = c.before.before.before.before.before in
     omega (arith, s.requires.0.bounded s.args.m, c.before.before.before.wide.ensures.0)
-
-queued-depth-requires : tie.Need-queued-depth-requires
-queued-depth-requires c κs = search rules
-
-sub-queued : tie.Need-overflow-sub-queued
-sub-queued c = search rules
-
-queued-requires : tie.Need-queued-requires
-queued-requires c κs = search rules
 
 add-queues : tie.Need-overflow-add-queues
 add-queues c = search rules
 
 element-write-queues : tie.Need-element-write-queues
 element-write-queues c =
-    let s = c.before.before.before.before.before.before.before.before.before in
-    omega (arith, s.requires.0.bounded s.args.m, c.before.before.before.before.before.before.before.wide.ensures.0)
+    let s = c.before.before.before.before.before.before.before in
+    omega (arith, s.requires.0.bounded s.args.m, c.before.before.before.before.before.wide.ensures.0)
 
 returns-2 : tie.Need-returns-2
 returns-2 c =
-    let s = c.before.before.before.before.before.before.before.before.before in
+    let s = c.before.before.before.before.before.before.before in
     let x = s.args in
-    let n = c.before.before.before.before.before.before.before.wide in
-    let i = c.before.before.before.before.before.place in
+    let n = c.before.before.before.before.before.wide in
+    let i = c.before.before.before.place in
     lessens x.queues.now x.m x.a s.requires.0 s.requires.1 n.result n.ensures.0 i.result i.ensures
-    c.before.before.before.before.if1.false c.before.before.queued-depth.result c.before.before.queued-depth.ensures.0 s.requires.2 c.queued.result c.before.if2.true
-    c.queued.ensures
+    c.before.before.if1.false
+    c.if2.true
 
 add-move-up : tie.Need-overflow-add-move-up
 add-move-up c = search rules
@@ -78,8 +71,8 @@ sub-move-up-2 c = search rules
 
 move-up-requires : tie.Need-move-up-requires
 move-up-requires c κs =
-    let s = c.before.before.before.before.before.before.before.before.before in
-    (s.requires.0.long, omega (arith, s.requires.0.bounded s.args.m, c.before.before.before.before.before.before.before.wide.ensures.0))
+    let s = c.before.before.before.before.before.before.before.before in
+    (s.requires.0.long, omega (arith, s.requires.0.bounded s.args.m, c.before.before.before.before.before.before.wide.ensures.0))
 
 sub-queues : tie.Need-overflow-sub-queues
 sub-queues c = search rules
@@ -92,12 +85,14 @@ element-write-queues-2 c = search rules
 
 returns-3 : tie.Need-returns-3
 returns-3 c =
-    let s = c.before.before.before.before.before.before.before.before.before.before in
+    let s = c.before.before.before.before.before.before.before.before.before in
     let x = s.args in
-    let n = c.before.before.before.before.before.before.before.before.wide in
-    let i = c.before.before.before.before.before.before.place in
+    let n = c.before.before.before.before.before.before.before.wide in
+    let i = c.before.before.before.before.before.place in
     leaves x.queues.now x.m x.a s.requires.0 s.requires.1 n.result n.ensures.0 i.result i.ensures
-    c.before.before.before.before.before.if1.false (omega (arith, c.before.before.before.queued-depth.ensures.0, c.before.before.if2.false)) c.move_up.new.0
+    c.before.before.before.before.if1.false
+    c.before.before.if2.false
+    c.move_up.new.0
     c.move_up.ensures
 
 pub leave_spec : {M : Type 1} → statement M
@@ -108,13 +103,11 @@ leave_spec =
     add_at
     element-copy-out-wide
     wide-requires
+    cast-place
     place-requires
     returns
-    add-queued-depth
-    element-copy-out-queued-depth
-    queued-depth-requires
-    sub-queued
-    queued-requires
+    add-b
+    element-copy-out-b
     add-queues
     element-write-queues
     returns-2

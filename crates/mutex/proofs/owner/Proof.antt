@@ -18,20 +18,20 @@ returns c =
     let x = c.before.before.args in
     owner-none x.queues.now x.m x.a c.if1.true
 
-add-queued-actor : tie.Need-overflow-add-queued-actor
-add-queued-actor c = search rules
+add_wide : tie.Need-overflow-add-wide
+add_wide c = search rules
 
-element-copy-out-queued-actor : tie.Need-element-copy-out-queued-actor
-element-copy-out-queued-actor c = search rules
+element-copy-out-wide : tie.Need-element-copy-out-wide
+element-copy-out-wide c = search rules
 
-queued-actor-requires : tie.Need-queued-actor-requires
-queued-actor-requires c κs = search rules
+wide-requires : tie.Need-wide-requires
+wide-requires c κs = search rules
 
 returns-2 : tie.Need-returns-2
 returns-2 c =
     let start = c.before.before.before.before in
     let x = start.args in
-    ap (eqb x.a) c.queued-actor.ensures.0
+    ap (eqb x.a) c.wide.ensures.0
     ∙ owner-first x.queues.now x.m x.a start.requires.0 start.requires.1 c.before.before.if1.false
 
 pub owner-spec : {M : Type 1} → statement M
@@ -41,7 +41,7 @@ owner-spec =
     mul-size
     element-copy-out-if1
     returns
-    add-queued-actor
-    element-copy-out-queued-actor
-    queued-actor-requires
+    add_wide
+    element-copy-out-wide
+    wide-requires
     returns-2)

@@ -1,10 +1,9 @@
 -- `mutex::place` meets its contract. The loop's invariant: the place among all n entries is i and the place among those from i on.
 -- Assumes nothing.
 use Prim.Native.Nat.{ℕ, ◌+◌, ◌-◌, ◌≤◌}
-use mathlib.Core.Path.{◌≡◌, sym, ◌∙◌, ap}
+use mathlib.Core.Path.{◌≡◌, ap}
 use mathlib.Core.List.{List}
 use native.Mathlib.Omega.{arith}
-use borrow.Author.Rules.{rules}
 use lib.ListN.{take, drop}
 use Rattle.mutex.specs.Parts.{place_of}
 use Rattle.mutex.proofs.Scan.{rest, rest-begin, place_found, place-passed, place_end}
@@ -22,24 +21,20 @@ loop-holds c =
     let x = c.args in
     (omega arith, omega (arith, ap (λ (l : List ℕ). place_of l x.actor) (rest-begin x.queues.now x.at x.n)))
 
-add-queued-actor : tie.Need-overflow-add-queued-actor invariant-loop decreases-loop
-add-queued-actor c = omega arith
+add-b : tie.Need-overflow-add-b invariant-loop decreases-loop
+add-b c = omega arith
 
-element-copy-out-queued-actor : tie.Need-element-copy-out-queued-actor invariant-loop decreases-loop
-element-copy-out-queued-actor c = omega arith
-
-queued-actor-requires : tie.Need-queued-actor-requires invariant-loop decreases-loop
-queued-actor-requires c κs = search rules
+element-copy-out-b : tie.Need-element-copy-out-b invariant-loop decreases-loop
+element-copy-out-b c = omega arith
 
 returns : tie.Need-returns invariant-loop decreases-loop
 returns c =
-    let x = c.before.before.before.before.before.args in
-    let turn = c.before.before.before.before.loop in
+    let x = c.before.before.before.before.args in
+    let turn = c.before.before.before.loop in
     omega (
       arith,
       turn.invariant.1,
-      place_found x.queues.now x.at x.n turn.i x.actor c.before.before.before.loop-test.true (omega arith)
-          (c.if1.true ∙ c.before.queued-actor.ensures.0),
+      place_found x.queues.now x.at x.n turn.i x.actor c.before.before.loop-test.true (omega arith) c.if1.true,
     )
 
 add-i : tie.Need-overflow-add-i invariant-loop decreases-loop
@@ -50,14 +45,13 @@ loop-less c = omega arith
 
 loop-again : tie.Need-loop-preserved invariant-loop decreases-loop
 loop-again c =
-    let x = c.before.before.before.before.before.args in
-    let turn = c.before.before.before.before.loop in (
+    let x = c.before.before.before.before.args in
+    let turn = c.before.before.before.loop in (
       omega arith,
       omega (
         arith,
         turn.invariant.1,
-        place-passed x.queues.now x.at x.n turn.i x.actor c.before.before.before.loop-test.true (omega arith)
-            (λ e. c.if1.false (e ∙ sym c.before.queued-actor.ensures.0)),
+        place-passed x.queues.now x.at x.n turn.i x.actor c.before.before.loop-test.true (omega arith) c.if1.false,
       ),
     )
 
@@ -74,9 +68,8 @@ place-spec =
     invariant-loop
     decreases-loop
     loop-holds
-    add-queued-actor
-    element-copy-out-queued-actor
-    queued-actor-requires
+    add-b
+    element-copy-out-b
     returns
     add-i
     loop-less

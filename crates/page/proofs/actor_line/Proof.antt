@@ -11,7 +11,7 @@ use Rattle.writing.proofs.Written.{joined, written-length}
 use Rattle.writing.proofs.Texts.{wrote-store, wrote-below}
 use Rattle.writing.proofs.Sections.{Begun, first-section, left_at, left-room, last_sum, last-wrote, section-room, section-sum, next-section}
 use Rattle.model.proofs.PageShape.{word-long}
-use Rattle.readiness.specs.Parts.{status_as}
+use Rattle.page.specs.Parts.{status_as}
 use Rattle.page.proofs.actor_line.Statement.{statement}
 use Rattle.page.proofs.actor_line.Tie as tie
 

@@ -5,8 +5,8 @@ use borrow.Author.Rules.{rules}
 use Rattle.model.specs.Text.{space, left}
 use Rattle.model.specs.Page.{status_word}
 use Rattle.writing.specs.Written.{Wrote}
-use Rattle.readiness.specs.Parts.{status_as}
-use Rattle.readiness.specs.declared.Status.{Status}
+use Rattle.page.specs.Parts.{status_as}
+use Rattle.page.specs.declared.Status.{Status}
 use Rattle.page.proofs.status_part.Statement.{statement}
 use Rattle.page.proofs.status_part.Tie as tie
 

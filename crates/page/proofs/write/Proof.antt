@@ -8,23 +8,18 @@ use lib.ListN.{get_or}
 use Rattle.model.specs.Text.{line}
 use Rattle.model.specs.Page.{actor_text}
 use Rattle.state.specs.declared.Actor.{Actor}
-use Rattle.state.specs.Arrays.{Arrays, arrays, seen}
 use Rattle.state.specs.State.{record_of, fresh_actor}
 use Rattle.state.proofs.Within.{get_or-within}
 use Rattle.writing.specs.Written.{Wrote}
 use Rattle.writing.proofs.Written.{rest}
 use Rattle.writing.proofs.Loops.{Turn, first-turn, next-at, next-room, next-sum, next-turn, all-wrote, all-length}
-use Rattle.readiness.specs.Parts.{status_as}
-use Rattle.page.proofs.Laws.{line_from, page-lines, line-from, page-alike}
+use Rattle.page.specs.Parts.{status_as}
+use Rattle.page.proofs.Laws.{line_from, page-lines, line-from}
 use Rattle.page.proofs.write.Statement.{statement}
 use Rattle.page.proofs.write.Tie as tie
 
--- the rest of the state, in which no line looks
-abbrev none : Arrays
-none = arrays [] [] [] [] []
-
 abbrev invariant-loop : tie.invariant-loop
-invariant-loop table comms queues buf₀ actors n at₀ a₀ buf at a = Turn (line_from table actors (seen comms queues none)) n buf₀ a buf at
+invariant-loop table comms queues buf₀ actors n at₀ a₀ buf at a = Turn (line_from table actors comms queues) n buf₀ a buf at
 
 abbrev decreases-loop : tie.decreases-loop
 decreases-loop table comms queues buf₀ actors n at₀ a₀ buf at a = n - a
@@ -35,7 +30,7 @@ actors-requires c κs = search rules
 loop-holds : tie.Need-loop-init invariant-loop decreases-loop
 loop-holds c =
     let s = c.before.before.before in
-    first-turn (rw c.actors.ensures (rw (page-lines s.args.table.now s.args.t2 (seen s.args.comms.now s.args.queues.now none)) at (s.requires.room none)))
+    first-turn (rw c.actors.ensures (rw (page-lines s.args.table.now s.args.t2 s.args.comms.now s.args.queues.now) at s.requires.room))
 
 -- an actor of the table is one of the eight
 array-index : (c : tie.In-loop invariant-loop decreases-loop) → c.before.loop.a < 8
@@ -47,7 +42,7 @@ own-record : (c : tie.After-r invariant-loop decreases-loop) → let s = c.befor
     get_or s.args.t2 a (record { position = 0; cells = [] }) ≡ get_or s.args.t2 a fresh_actor
 own-record c =
     let s = c.before.before.before.before.before.before in
-    get_or-within s.args.t2 c.before.before.loop.a _ _ (omega (arith, array-index c.before, s.requires.answerable.actors-room.long))
+    get_or-within s.args.t2 c.before.before.loop.a _ _ (omega (arith, array-index c.before, s.requires.answerable.actors-long))
 
 abbrev taken : tie.After-status-of invariant-loop decreases-loop → Actor
 taken c = get_or c.before.before.before.before.before.before.before.args.t2 c.before.before.before.loop.a (record { position = 0; cells = [] })
@@ -56,10 +51,10 @@ taken-same : (c : tie.After-status-of invariant-loop decreases-loop) → taken c
 taken-same c = own-record c.before
 
 line_same : (c : tie.After-status-of invariant-loop decreases-loop) → let s = c.before.before.before.before.before.before.before in let a = c.before.before.before.loop.a in
-    line (actor_text a (record_of (taken c)) (status_as c.status-of.result)) ≡ line_from s.args.table.now s.args.t2 (seen s.args.comms.now s.args.queues.now none) a
+    line (actor_text a (record_of (taken c)) (status_as c.status-of.result)) ≡ line_from s.args.table.now s.args.t2 s.args.comms.now s.args.queues.now a
 line_same c =
     let s = c.before.before.before.before.before.before.before in
-    line-from s.args.table.now s.args.t2 (seen s.args.comms.now s.args.queues.now none) c.before.before.before.loop.a (taken c) (taken-same c) (status_as c.status-of.result) (c.status-of.ensures none)
+    line-from s.args.table.now s.args.t2 s.args.comms.now s.args.queues.now c.before.before.before.loop.a (taken c) (taken-same c) (status_as c.status-of.result) c.status-of.ensures
 
 mul-r : tie.Need-overflow-mul-r invariant-loop decreases-loop
 mul-r c = omega (arith, array-index c)
@@ -74,7 +69,7 @@ status-of-requires c κs =
     record {
       accepted = p.accepted;
       actor = omega (arith, c.before.before.before.actors.ensures, c.before.loop-test.true);
-      eight = rw (own-record c) (p.actors-room.eight c.before.before.loop.a);
+      eight = rw (own-record c) (p.eight c.before.before.loop.a);
       comms-room = p.comms-room;
       queue-room = p.queue-room;
     }
@@ -99,7 +94,7 @@ actor-line-requires c κs =
 
 -- what the turn wrote
 wrote : (c : tie.After-slice-known2 invariant-loop decreases-loop) → let s = c.before.before.before.before.before.before.before.before.before.before.before in let l = c.before.before.before.before.before.before.before.loop in let w = c.before.before.actor-line in
-    Wrote (rest l.at l.buf) (line_from s.args.table.now s.args.t2 (seen s.args.comms.now s.args.queues.now none) l.a) w.new.1.1.1.0 w.result
+    Wrote (rest l.at l.buf) (line_from s.args.table.now s.args.t2 s.args.comms.now s.args.queues.now l.a) w.new.1.1.1.0 w.result
 wrote c = rw (← line_same c.before.before.before.before) c.before.before.actor-line.ensures
 
 add_at : tie.Need-overflow-add-at invariant-loop decreases-loop
@@ -125,9 +120,7 @@ returns : tie.Need-returns invariant-loop decreases-loop
 returns c =
     let s = c.before.before.before.before.before in
     let l = c.before.loop in
-    λ other.
-    rw (page-alike s.args.table.now s.args.t2 s.args.comms.now s.args.queues.now other none, page-lines s.args.table.now s.args.t2 (seen s.args.comms.now s.args.queues.now none), ← c.before.before.actors.ensures)
-    (all-wrote l.invariant c.loop-test.false)
+    rw (page-lines s.args.table.now s.args.t2 s.args.comms.now s.args.queues.now, ← c.before.before.actors.ensures) (all-wrote l.invariant c.loop-test.false)
 
 pub write_spec : {M : Type 1} → statement M
 write_spec =

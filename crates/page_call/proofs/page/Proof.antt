@@ -6,8 +6,7 @@ use Rattle.model.specs.Schedule.{end_state}
 use Rattle.model.specs.Calls.{ready_checks}
 use Rattle.model.specs.Page.{page, page_of}
 use Rattle.model.proofs.Fills.{too_small, rest-refused, rest-accepted}
-use Rattle.page_call.proofs.Pages.{page-small, pageable}
-use Rattle.execution.proofs.Ends.{end_arrays}
+use Rattle.page_call.proofs.Pages.{page-small, pageable, page-held}
 use Rattle.page_call.proofs.page.Statement.{statement}
 use Rattle.page_call.proofs.page.Tie as tie
 
@@ -32,7 +31,7 @@ write-requires c κs =
 cast-t29 : tie.Need-overflow-cast-t29
 cast-t29 c =
     let E = c.before.before.before.before.before.before.before.before.before.execute.ensures.ended c.before.before.before.before.before.before.before.enum_told.given.1 in
-    omega (arith, (c.before.before.write.ensures (end_arrays E)).0, page-small E (λ j. omega (arith, c.before.before.before.before.before.before.before.before.before.before.before.before.before.before.before.before.before.before.before.shared-slice-known.given j)))
+    omega (arith, c.before.before.write.ensures.0, page-small E (λ j. omega (arith, c.before.before.before.before.before.before.before.before.before.before.before.before.before.before.before.before.before.before.before.shared-slice-known.given j)))
 
 enum-known-course : tie.Need-enum-known-course
 enum-known-course c = search rules
@@ -45,7 +44,8 @@ unfolding page_of
 returns-2 c =
     let s = c.before.before.before.before.before.before.before.before.before.before.before.before.before.before.before.before.before.before.before.before in
     let E = c.before.before.before.before.before.before.before.before.before.execute.ensures.ended c.before.before.before.before.before.before.before.enum_told.given.1 in
-    let held = c.before.before.write.ensures (end_arrays E) in
+    let w = c.before.before.write in
+    let held = rw (page-held E) at w.ensures in
     rest-accepted 816 20 (ready_checks s.args.table.now s.args.schedule.now) (page s.args.table.now (end_state s.args.table.now s.args.schedule.now)) s.args.buffer.now _ _ _ c.before.before.before.before.before.before.before.before.before.before.before.before.before.before.before.before.if1.false E.checked (ap (page s.args.table.now) E.end.site) held.0 held.1
 
 returns-3 : tie.Need-returns-3

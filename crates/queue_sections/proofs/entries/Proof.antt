@@ -1,7 +1,7 @@
 -- `queue_sections::entries` meets its contract. The loop's invariant: the first i entries are written. Assumes nothing.
 use mathlib.Core.Path.{subst, sym, ◌≡◌}
-use mathlib.Core.List.{List}
-use Prim.Native.Nat.{ℕ, ◌-◌, ◌≤◌}
+use mathlib.Core.List.{List, [], ◌∷◌}
+use Prim.Native.Nat.{ℕ, ◌+◌, ◌-◌, ◌/◌, ◌%◌, ◌≤◌}
 use native.Mathlib.Omega.{arith}
 use borrow.Author.Rules.{rules}
 use lib.ListN.{length}
@@ -30,50 +30,50 @@ loop-holds c =
     let s = c.before in
     first-turn (subst (λ (l : List ℕ). length l ≤ length s.args.buf.now) (sym (same s)) s.requires.2)
 
-add-b : tie.Need-overflow-add-b invariant-loop decreases-loop
-add-b c = search rules
+add_wide : tie.Need-overflow-add-wide invariant-loop decreases-loop
+add_wide c = search rules
 
-element-copy-out-b : tie.Need-element-copy-out-b invariant-loop decreases-loop
-element-copy-out-b c = search rules
+element-copy-out-wide : tie.Need-element-copy-out-wide invariant-loop decreases-loop
+element-copy-out-wide c = search rules
 
-queued-actor-requires : tie.Need-queued-actor-requires invariant-loop decreases-loop
-queued-actor-requires c κs = search rules
-
-queued-depth-requires : tie.Need-queued-depth-requires invariant-loop decreases-loop
-queued-depth-requires c κs = search rules
+wide-requires : tie.Need-wide-requires invariant-loop decreases-loop
+wide-requires c κs = search rules
 
 cast-two : tie.Need-overflow-cast-two invariant-loop decreases-loop
-cast-two c = search rules
+cast-two c = omega (arith, c.wide.ensures.1)
+
+add-two : tie.Need-overflow-add-two invariant-loop decreases-loop
+add-two c = omega (arith, c.wide.ensures.1)
 
 cast-two-2 : tie.Need-overflow-cast-two-2 invariant-loop decreases-loop
-cast-two-2 c = search rules
+cast-two-2 c = omega (arith, c.wide.ensures.1)
 
 sub-two : tie.Need-overflow-sub-two invariant-loop decreases-loop
-sub-two c = next-at c.before.before.before.before.loop.invariant c.before.before.before.loop-test.true
+sub-two c = next-at c.before.before.before.loop.invariant c.before.before.loop-test.true
 
 part-two-start : tie.Need-slice-bounds-two-start invariant-loop decreases-loop
-part-two-start c = next-at c.before.before.before.before.loop.invariant c.before.before.before.loop-test.true
+part-two-start c = next-at c.before.before.before.loop.invariant c.before.before.loop-test.true
 
 part-two-end : tie.Need-slice-bounds-two-end invariant-loop decreases-loop
 part-two-end c = search rules
 
 two-requires : tie.Need-two-requires invariant-loop decreases-loop
-two-requires c κs = next-room c.before.before.before.before.before.loop.invariant c.before.before.before.before.loop-test.true
+two-requires c κs = next-room c.before.before.before.before.loop.invariant c.before.before.before.loop-test.true
 
--- the loop's turn, in which the entry's two bytes are written
-abbrev turn : (c : tie.After-slice-known2 invariant-loop decreases-loop) → tie.In-loop invariant-loop decreases-loop
-turn c = c.before.before.before.before.before.before.before
-
-written : (c : tie.After-slice-known2 invariant-loop decreases-loop) → let x = (turn c).before.before.before.args in let l = (turn c).before.loop in let t = c.before.before.two in
+-- the entry's two bytes are written
+written : (c : tie.After-slice-known2 invariant-loop decreases-loop) → let x = c.before.before.before.before.before.before.before.before.before.args in
+    let l = c.before.before.before.before.before.before.before.loop in let t = c.before.before.two in
     Wrote (rest l.at l.buf) (entry_at x.queues.now x.from l.i) t.new.1.1.0 t.result
 written c =
-    let d = c.before.before.before.before in
-    rw (← d.before.queued-actor.ensures.0, ← d.queued-depth.ensures.0) c.before.before.two.ensures
+    let l = c.before.before.before.before.before.before.before.loop in
+    let t = c.before.before.two in
+    subst (λ (b : ℕ). Wrote (rest l.at l.buf) (b % 8 ∷ (b / 8 + 1) ∷ []) t.new.1.1.0 t.result) c.before.before.before.before.wide.ensures.0
+    t.ensures
 
 add_at : tie.Need-overflow-add-at invariant-loop decreases-loop
 add_at c =
-    let t = turn c in
-    omega (arith, next-sum t.before.loop.inv t.loop-test.taken (written c).0)
+    let t = c.before.before.before.before.before.before in
+    omega (arith, next-sum t.before.loop.invariant t.loop-test.true (written c).0)
 
 add-i : tie.Need-overflow-add-i invariant-loop decreases-loop
 add-i c = search rules
@@ -83,8 +83,8 @@ loop-less c = search rules
 
 loop-again : tie.Need-loop-preserved invariant-loop decreases-loop
 loop-again c =
-    let t = turn c in
-    next-turn t.before.loop.inv t.loop-test.taken (written c)
+    let t = c.before.before.before.before.before.before in
+    next-turn t.before.loop.invariant t.loop-test.true (written c)
 
 same_length : tie.Need-same-length invariant-loop decreases-loop
 same_length c = all-length c.before.loop.invariant c.loop-test.false
@@ -102,11 +102,11 @@ entries-spec =
     invariant-loop
     decreases-loop
     loop-holds
-    add-b
-    element-copy-out-b
-    queued-actor-requires
-    queued-depth-requires
+    add_wide
+    element-copy-out-wide
+    wide-requires
     cast-two
+    add-two
     cast-two-2
     sub-two
     part-two-start

@@ -8,7 +8,6 @@ use lib.ListN.{length}
 use Rattle.model.specs.Report.{parts}
 use Rattle.writing.specs.Written.{Wrote}
 use Rattle.queue_sections.specs.Parts.{steps_bytes}
-use Rattle.writing.proofs.Written.{rest}
 use Rattle.writing.proofs.Loops.{Turn, first-turn, next-at, next-room, next-sum, next-turn, all-wrote, all-length}
 use Rattle.queue_sections.proofs.Lists.{name_at, names_at}
 use Rattle.queue_sections.proofs.names.Statement.{statement}
@@ -29,54 +28,28 @@ loop-holds c =
     let s = c.before in
     first-turn (subst (λ (l : List ℕ). length l ≤ length s.args.buf.now) (sym (same s)) s.requires.2)
 
-add_wide : tie.Need-overflow-add-wide invariant-loop decreases-loop
-add_wide c = search rules
+add-n : tie.Need-overflow-add-n invariant-loop decreases-loop
+add-n c = search rules
 
-element-copy-out-wide : tie.Need-element-copy-out-wide invariant-loop decreases-loop
-element-copy-out-wide c = search rules
-
-wide-requires : tie.Need-wide-requires invariant-loop decreases-loop
-wide-requires c κs = search rules
-
-actor-requires : tie.Need-actor-requires invariant-loop decreases-loop
-actor-requires c κs = search rules
-
-action-requires : tie.Need-action-requires invariant-loop decreases-loop
-action-requires c κs = search rules
-
-cast-two : tie.Need-overflow-cast-two invariant-loop decreases-loop
-cast-two c = search rules
-
-cast-two-2 : tie.Need-overflow-cast-two-2 invariant-loop decreases-loop
-cast-two-2 c = search rules
+element-copy-out-n : tie.Need-element-copy-out-n invariant-loop decreases-loop
+element-copy-out-n c = search rules
 
 sub-two : tie.Need-overflow-sub-two invariant-loop decreases-loop
-sub-two c = next-at c.before.before.before.before.before.loop.invariant c.before.before.before.before.loop-test.true
+sub-two c = next-at c.before.before.loop.invariant c.before.loop-test.true
 
 part-two-start : tie.Need-slice-bounds-two-start invariant-loop decreases-loop
-part-two-start c = next-at c.before.before.before.before.before.loop.invariant c.before.before.before.before.loop-test.true
+part-two-start c = next-at c.before.before.loop.invariant c.before.loop-test.true
 
 part-two-end : tie.Need-slice-bounds-two-end invariant-loop decreases-loop
 part-two-end c = search rules
 
 two-requires : tie.Need-two-requires invariant-loop decreases-loop
-two-requires c κs = next-room c.before.before.before.before.before.before.loop.invariant c.before.before.before.before.before.loop-test.true
-
--- the loop's turn, in which the name's two bytes are written
-abbrev turn : (c : tie.After-slice-known2 invariant-loop decreases-loop) → tie.In-loop invariant-loop decreases-loop
-turn c = c.before.before.before.before.before.before.before.before
-
-written : (c : tie.After-slice-known2 invariant-loop decreases-loop) → let x = (turn c).before.before.before.args in let l = (turn c).before.loop in let t = c.before.before.two in
-    Wrote (rest l.at l.buf) (name_at x.log.now x.from l.i) t.new.1.1.0 t.result
-written c =
-    let k = c.before.before.before.before in
-    let a = k.before in
-    rw (← a.before.wide.ensures.0, ← a.actor.ensures.0, ← k.action.ensures.0) c.before.before.two.ensures
+two-requires c κs = next-room c.before.before.before.loop.invariant c.before.before.loop-test.true
 
 add_at : tie.Need-overflow-add-at invariant-loop decreases-loop
 add_at c =
-    let t = turn c in
-    omega (arith, next-sum t.before.loop.inv t.loop-test.taken (written c).0)
+    let t = c.before.before.before.before.before in
+    omega (arith, next-sum t.before.loop.invariant t.loop-test.true c.before.before.two.ensures.0)
 
 add-i : tie.Need-overflow-add-i invariant-loop decreases-loop
 add-i c = search rules
@@ -86,8 +59,8 @@ loop-less c = search rules
 
 loop-again : tie.Need-loop-preserved invariant-loop decreases-loop
 loop-again c =
-    let t = turn c in
-    next-turn t.before.loop.inv t.loop-test.taken (written c)
+    let t = c.before.before.before.before.before in
+    next-turn t.before.loop.invariant t.loop-test.true c.before.before.two.ensures
 
 same_length : tie.Need-same-length invariant-loop decreases-loop
 same_length c = all-length c.before.loop.invariant c.loop-test.false
@@ -105,13 +78,8 @@ names-spec =
     invariant-loop
     decreases-loop
     loop-holds
-    add_wide
-    element-copy-out-wide
-    wide-requires
-    actor-requires
-    action-requires
-    cast-two
-    cast-two-2
+    add-n
+    element-copy-out-n
     sub-two
     part-two-start
     part-two-end

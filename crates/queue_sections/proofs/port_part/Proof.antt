@@ -5,7 +5,6 @@ use Prim.Native.Nat.{ℕ, ◌+◌, ◌*◌, ◌≤◌}
 use native.Mathlib.Omega.{arith}
 use borrow.Author.Rules.{rules}
 use lib.ListN.{length}
-use Rattle.state.specs.Arrays.{steps, log_length}
 use Rattle.state.specs.State.{head_in}
 use Rattle.writing.specs.Written.{Wrote}
 use Rattle.queue_sections.specs.Parts.{steps_bytes}
@@ -38,15 +37,15 @@ add-names c =
 
 -- n steps from the port's head on
 abbrev first : (s : tie.Start) → ℕ → List ℕ
-first s n = steps_bytes s.args.log.now (steps * s.args.port + head_in s.args.ends.now s.args.port) n
+first s n = steps_bytes s.args.log.now (256 * s.args.port + head_in s.args.ends.now s.args.port) n
 
 names-requires : tie.Need-names-requires
 names-requires c κs =
     let s = c.before.before.before.before in
-    let from = steps * s.args.port + head_in s.args.ends.now s.args.port in
+    let from = 256 * s.args.port + head_in s.args.ends.now s.args.port in
     let count = sym c.before.waiting.ensures in (
       s.requires.0.log-long,
-      subst (λ (n : ℕ). from + n ≤ log_length) count (port-room s.args.log.now s.args.ends.now s.requires.0 s.args.port s.requires.1),
+      subst (λ (n : ℕ). from + n ≤ 4096) count (port-room s.args.log.now s.args.ends.now s.requires.0 s.args.port s.requires.1),
       subst (λ (n : ℕ). length (first s n) ≤ length s.args.buf.now) count s.requires.2,
     )
 

@@ -1,20 +1,14 @@
 -- `readiness::answer` meets its contract: the mask is the state's, its ones are the actors that are ready, and the tests say the ending.
 -- Assumes nothing.
-use mathlib.Core.Path.{◌≡◌, refl, ◌∙◌, ap}
-use mathlib.Core.Bool.{Bool}
+use mathlib.Core.Path.{refl, ◌∙◌, ap, sym}
 use Prim.Native.Nat.{ℕ}
 use native.Mathlib.Omega.{arith}
-use borrow.Author.Rules.{rules}
 use borrow.Author.Tests.{eq-eqb, ne_eqb}
 use lib.Count.{ones}
-use Rattle.model.specs.Ready.{ending_of, ready_answer}
-use Rattle.answers.specs.declared.Ending.{Ending}
-use Rattle.answers.specs.declared.Ending.TheVariants as case
-use Rattle.answers.specs.Answers.{ending_as, readiness_of}
-use Rattle.state.specs.Arrays.{Arrays, seen}
-use Rattle.state.specs.State.{site_of}
 use Rattle.readiness.specs.Parts.{everyone_finished}
+use Rattle.answers.specs.declared.Ending.TheVariants as case
 use Rattle.readiness.proofs.Laws.{nobody-known, answer-right}
+use borrow.Author.Rules.{rules}
 use Rattle.readiness.proofs.answer.Statement.{statement}
 use Rattle.readiness.proofs.answer.Tie as tie
 
@@ -28,30 +22,34 @@ ready-mask-requires c κs =
 
 all-finished-requires : tie.Need-all-finished-requires
 all-finished-requires c κs =
-    (omega (arith, c.before.actors.ensures, c.before.before.before.requires.accepted.actors-most), c.before.before.before.requires.actors-room.long)
-
--- the answer with this ending, which the tests say
-settled : (s : tie.After-all-finished) (e : Ending) → let x = s.before.before.before.before.args in let mask = s.before.ready-mask.result in
-    ending_as e ≡ ending_of s.all_finished.result (ones mask) → (rest : Arrays)
-    → readiness_of (record { mask = mask; count = ones mask; ending = e })
-    ≡ ready_answer x.table.now (site_of x.actors (seen x.comms.now x.queues.now rest))
-settled s e end rest =
-    let x = s.before.before.before.before.args in
-    let mask = s.before.ready-mask.result in
-    answer-right x.table.now x.actors (seen x.comms.now x.queues.now rest) (record { mask = mask; count = ones mask; ending = e })
-    (s.before.ready-mask.ensures rest) refl
-    (end
-    ∙ ap (λ (b : Bool). ending_of b (ones mask))
-    (s.all_finished.ensures ∙ ap (λ (n : ℕ). everyone_finished x.table.now n x.actors) s.before.before.actors.ensures))
+    (omega (arith, c.before.actors.ensures, c.before.before.before.requires.accepted.actors-most), c.before.before.before.requires.actors-long)
 
 returns : tie.Need-returns
-returns c = settled c.before case.Finished (rw c.if1.true)
+returns c =
+    λ log ends journal.
+    answer-right c.before.before.before.before.before.args.table.now c.before.before.before.before.before.args.actors c.before.before.before.before.before.args.comms.now c.before.before.before.before.before.args.queues.now log ends journal
+    (record { mask = c.before.before.ready-mask.result; count = ones c.before.before.ready-mask.result; ending = case.Finished })
+    (c.before.before.ready-mask.ensures log ends journal)
+    refl
+    (rw (sym (c.before.all_finished.ensures ∙ ap (λ (n : ℕ). everyone_finished c.before.before.before.before.before.args.table.now n c.before.before.before.before.before.args.actors) c.before.before.before.actors.ensures) ∙ c.if1.true))
 
 returns-2 : tie.Need-returns-2
-returns-2 c = settled c.before.before case.Stuck (rw (c.before.if1.false, eq-eqb _ _ c.if2.true))
+returns-2 c =
+    λ log ends journal.
+    answer-right c.before.before.before.before.before.before.args.table.now c.before.before.before.before.before.before.args.actors c.before.before.before.before.before.before.args.comms.now c.before.before.before.before.before.before.args.queues.now log ends journal
+    (record { mask = c.before.before.before.ready-mask.result; count = ones c.before.before.before.ready-mask.result; ending = case.Stuck })
+    (c.before.before.before.ready-mask.ensures log ends journal)
+    refl
+    (rw (sym (c.before.before.all_finished.ensures ∙ ap (λ (n : ℕ). everyone_finished c.before.before.before.before.before.before.args.table.now n c.before.before.before.before.before.before.args.actors) c.before.before.before.before.actors.ensures) ∙ c.before.if1.false, eq-eqb _ _ c.if2.true))
 
 returns-3 : tie.Need-returns-3
-returns-3 c = settled c.before.before case.Going (rw (c.before.if1.false, ne_eqb _ _ c.if2.false))
+returns-3 c =
+    λ log ends journal.
+    answer-right c.before.before.before.before.before.before.args.table.now c.before.before.before.before.before.before.args.actors c.before.before.before.before.before.before.args.comms.now c.before.before.before.before.before.before.args.queues.now log ends journal
+    (record { mask = c.before.before.before.ready-mask.result; count = ones c.before.before.before.ready-mask.result; ending = case.Going })
+    (c.before.before.before.ready-mask.ensures log ends journal)
+    refl
+    (rw (sym (c.before.before.all_finished.ensures ∙ ap (λ (n : ℕ). everyone_finished c.before.before.before.before.before.before.args.table.now n c.before.before.before.before.before.before.args.actors) c.before.before.before.before.actors.ensures) ∙ c.before.if1.false, ne_eqb _ _ c.if2.false))
 
 pub answer-spec : {M : Type 1} → statement M
 answer-spec =

@@ -1,26 +1,35 @@
--- `readiness::is_ready` meets its contract: the status decides.
+-- `readiness::is_ready` meets its contract: of an actor that is not finished, its next step decides.
 -- Assumes nothing.
 use mathlib.Core.Path.{◌≡◌, ◌∙◌, ap, sym}
+use native.Mathlib.Omega.{arith}
 use borrow.Author.Rules.{rules}
-use lib.Dec.{ltb}
-use Rattle.table.specs.Format.{count_of}
-use Rattle.state.specs.Arrays.{Arrays, seen}
-use Rattle.readiness.specs.declared.Status.{Status}
-use Rattle.readiness.specs.Parts.{step_from, status_as, looks_ready}
-use Rattle.readiness.proofs.Laws.{is_ready, status-ready}
+use Rattle.model.specs.Step.{is_taken}
+use Rattle.state.specs.State.{step_as}
+use Rattle.state.specs.declared.NextStep.{NextStep}
+use Rattle.readiness.specs.Parts.{looks_ready}
+use Rattle.readiness.proofs.Laws.{looks-finished, looks-by}
 use Rattle.readiness.proofs.is_ready.Statement.{statement}
 use Rattle.readiness.proofs.is_ready.Tie as tie
 
--- what the status is decides
-decides : (s : tie.After-status-of) (t : Status) → s.status-of.result ≡ t → let x = s.before.before.args in
-    (rest : Arrays) → is_ready (status_as t) ≡ looks_ready x.table.now x.a x.r (seen x.comms.now x.queues.now rest)
-decides s t e rest =
-    let x = s.before.before.args in
-    ap is_ready (ap status_as (sym e) ∙ s.status-of.ensures rest)
-    ∙ status-ready (ltb x.r.position (count_of x.table.now x.a)) (step_from x.table.now x.a x.r (seen x.comms.now x.queues.now rest))
+-- what the next step is decides
+decides : (s : tie.After-next-step) (t : NextStep) → s.next-step.result ≡ t → let x = s.before.before.before.before.args in
+    (log ends : _) → is_taken (step_as t) ≡ looks_ready x.table.now x.a x.r x.comms.now x.queues.now log ends
+decides s t e log ends =
+    let x = s.before.before.before.before.args in
+    sym (ap (λ (u : NextStep). is_taken (step_as u)) e)
+    ∙ looks-by x.table.now x.a x.r x.comms.now x.queues.now (omega (arith, s.before.before.actions.ensures, s.before.if1.false))
+    (step_as s.next-step.result) s.next-step.ensures log ends
 
-status-of-requires : tie.Need-status-of-requires
-status-of-requires c κs = search rules
+actions-requires : tie.Need-actions-requires
+actions-requires c κs = search rules
+
+returns : tie.Need-returns
+returns c =
+    let x = c.before.before.before.args in
+    looks-finished x.table.now x.a x.r x.comms.now x.queues.now (omega (arith, c.before.actions.ensures, c.if1.true))
+
+next-step-requires : tie.Need-next-step-requires
+next-step-requires c κs = (c.before.before.before.requires, omega (arith, c.before.actions.ensures, c.if1.false))
 
 enum_told : tie.Need-enum-told
 enum_told c = search rules
@@ -31,31 +40,25 @@ enum-told-2 c = search rules
 enum-told-3 : tie.Need-enum-told-3
 enum-told-3 c = search rules
 
-enum-told-4 : tie.Need-enum-told-4
-enum-told-4 c = search rules
-
-returns : tie.Need-returns
-returns c = decides c.before.before _ c.enum_told.given.1
-
 returns-2 : tie.Need-returns-2
-returns-2 c = decides c.before.before _ c.enum-told2.given.1
+returns-2 c = decides c.before.before _ c.enum_told.given.1
 
 returns-3 : tie.Need-returns-3
-returns-3 c = decides c.before.before _ c.enum-told3.given.1
+returns-3 c = decides c.before.before _ c.enum-told2.given.1
 
 returns-4 : tie.Need-returns-4
-returns-4 c = decides c.before.before _ c.enum-told4.given.1
+returns-4 c = decides c.before.before _ c.enum-told3.given.1
 
 pub is-ready-spec : {M : Type 1} → statement M
 is-ready-spec =
     tie.close
     (tie.spec
-    status-of-requires
+    actions-requires
+    returns
+    next-step-requires
     enum_told
     enum-told-2
     enum-told-3
-    enum-told-4
-    returns
     returns-2
     returns-3
     returns-4)

@@ -2,7 +2,7 @@
 -- Assumes nothing.
 use mathlib.Core.Path.{◌≡◌, refl, ◌∙◌, ap, sym, subst}
 use mathlib.Core.Bool.{cond}
-use mathlib.Core.List.{[], ◌∷◌}
+use mathlib.Core.List.{List, [], ◌∷◌}
 use native.Mathlib.Omega.{arith}
 use borrow.Author.Rules.{rules}
 use Rattle.table.specs.declared.Action.{Action}
@@ -12,8 +12,7 @@ use Rattle.table.proofs.OtherKinds.{other-kind}
 use Rattle.model.proofs.NextSteps.{always-taken}
 use Rattle.model.specs.Local.{Seen, is_seen}
 use Rattle.model.specs.Step.{NextStep, taken, waiting, step_of}
-use Rattle.state.specs.Arrays.{Arrays, seen}
-use Rattle.state.specs.State.{held_in, seen_from}
+use Rattle.state.specs.State.{mail_of, queues_of, seen_from}
 use Rattle.readiness.specs.Parts.{step_from}
 use Rattle.readiness.proofs.Laws.{steps-by}
 use Rattle.readiness.proofs.next_step.Statement.{statement}
@@ -29,11 +28,10 @@ module _ (s : tie.After-action) (x : Action) (e : s.action.result ≡ x) where
       (pre.0.accepted.in-range y.a y.r.position pre.0.actor pre.1)
 
   is-that : (t : NextStep) → let y = s.before.before.args in
-      ((rest : Arrays) → t ≡ step_of y.table.now (seen_from y.r (held_in (seen y.comms.now y.queues.now rest))) y.a x)
-      → (rest : Arrays) → t ≡ step_from y.table.now y.a y.r (seen y.comms.now y.queues.now rest)
-  is-that t next rest =
-      let y = s.before.before.args in
-      steps-by y.table.now y.a y.r x (sym s.action.ensures ∙ e) t (seen y.comms.now y.queues.now rest) (next rest)
+      ((log ends : List _) → t ≡ step_of y.table.now (seen_from y.r (mail_of y.comms.now log ends) (queues_of y.queues.now)) y.a x)
+      → (log ends : List _) → t ≡ step_from y.table.now y.a y.r y.comms.now y.queues.now log ends
+  is-that =
+      let y = s.before.before.args in steps-by y.table.now y.a y.r y.comms.now y.queues.now x (sym s.action.ensures ∙ e)
 
 action-requires : tie.Need-action-requires
 action-requires c κs = let L = c.before.requires in (L.0.accepted, L.0.actor, L.1)
@@ -73,26 +71,26 @@ awaited-requires-2 : tie.Need-awaited-requires-2
 awaited-requires-2 c κs = search rules
 
 returns : tie.Need-returns
-returns c = is-that c.before.before.before.before _ c.before.before.x.given.1 _ (λ rest. c.adding.ensures)
+returns c = is-that c.before.before.before.before _ c.before.before.x.given.1 _ (λ log ends. c.adding.ensures)
 
 returns-2 : tie.Need-returns-2
 returns-2 c =
     is-that c.before.before.before.before.before _ c.before.before.before.x2.given.1 _
-    (λ rest. c.awaited.ensures ∙ ap (λ (f : Seen). cond (is_seen f) taken waiting) c.before.communications.ensures)
+    (λ log ends. c.awaited.ensures ∙ ap (λ (f : Seen). cond (is_seen f) taken waiting) c.before.communications.ensures)
 
 returns-3 : tie.Need-returns-3
 returns-3 c =
     is-that c.before.before.before.before.before _ c.before.before.before.x3.given.1 _
-    (λ rest. c.awaited2.ensures ∙ ap (λ (f : Seen). cond (is_seen f) taken waiting) c.before.mutexes.ensures)
+    (λ log ends. c.awaited2.ensures ∙ ap (λ (f : Seen). cond (is_seen f) taken waiting) c.before.mutexes.ensures)
 
 returns-4 : tie.Need-returns-4
 returns-4 c =
     let s = c.before in
     let y = s.before.before.args in
     is-that s s.action.result refl taken
-    (λ rest.
+    (λ log ends.
     sym
-    (always-taken y.table.now (seen_from y.r (held_in (seen y.comms.now y.queues.now rest))) y.a s.action.result
+    (always-taken y.table.now (seen_from y.r (mail_of y.comms.now log ends) (queues_of y.queues.now)) y.a s.action.result
     (λ cell other e. other-kind (1 ∷ 6 ∷ 10 ∷ []) c.match.keys4 (Add cell other) tt e)
     (λ result list e. other-kind (1 ∷ 6 ∷ 10 ∷ []) c.match.keys4 (WaitAny result list) tt e)
     (λ result list e. other-kind (1 ∷ 6 ∷ 10 ∷ []) c.match.keys4 (MutexWait result list) tt e)))

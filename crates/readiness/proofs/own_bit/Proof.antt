@@ -14,7 +14,7 @@ is-ready-requires c κs = c.before.requires.0
 returns : tie.Need-returns
 returns c =
     let x = c.before.before.before.args in
-    λ rest. sym (ap (λ (b : Bool). cond b x.mask (x.mask - 2 ^ x.a)) (sym (c.before.is-ready.ensures rest) ∙ c.if1.true))
+    λ log ends. sym (ap (λ (b : Bool). cond b x.mask (x.mask - 2 ^ x.a)) (sym (c.before.is-ready.ensures log ends) ∙ c.if1.true))
 
 cast-result : tie.Need-overflow-cast-result
 cast-result c = search rules
@@ -37,9 +37,9 @@ sub-result c = omega (arith, one_shifted c, c.before.before.before.requires.1)
 returns-2 : tie.Need-returns-2
 returns-2 c =
     let x = c.before.before.before.args in
-    λ rest.
+    λ log ends.
     ap (λ (n : ℕ). x.mask - n) (one_shifted c)
-    ∙ sym (ap (λ (b : Bool). cond b x.mask (x.mask - 2 ^ x.a)) (sym (c.before.is-ready.ensures rest) ∙ c.if1.false))
+    ∙ sym (ap (λ (b : Bool). cond b x.mask (x.mask - 2 ^ x.a)) (sym (c.before.is-ready.ensures log ends) ∙ c.if1.false))
 
 pub own-bit-spec : {M : Type 1} → statement M
 own-bit-spec =

@@ -1,6 +1,6 @@
 -- `ready_call::ready` meets its contract: it is refused as the execution is, and the answer is that of the end state. Assumes nothing.
 use borrow.Author.Rules.{rules}
-use Rattle.execution.proofs.Ends.{end_arrays, answerable}
+use Rattle.execution.proofs.Ends.{answerable}
 use Rattle.ready_call.proofs.ReadyOutcomes.{ready_refused, ready-given}
 use Rattle.ready_call.proofs.ready.Statement.{statement}
 use Rattle.ready_call.proofs.ready.Tie as tie
@@ -20,8 +20,9 @@ enum-known-course c = search rules
 returns : tie.Need-returns
 returns c =
     let s = c.before.before.before.before.before.before.before.before.before.before.before.before.before.before.before in
-    let E = c.before.before.before.before.before.before.execute.ensures.ended c.before.before.before.before.enum_told.given.1 in
-    ready-given s.args.table.now s.args.schedule.now _ _ E.end.site E.checked (c.answer.ensures (end_arrays E))
+    let x = c.before.before.before.before.before.before.execute in
+    let E = x.ensures.ended c.before.before.before.before.enum_told.given.1 in
+    ready-given s.args.table.now s.args.schedule.now _ _ E.end.site E.checked (c.answer.ensures x.new.1.1.1.0 x.new.1.1.1.1.0 x.new.1.1.1.1.1.1.0)
 
 returns-2 : tie.Need-returns-2
 returns-2 c =

@@ -8,7 +8,6 @@ use lib.ListN.{length, length-append}
 use Rattle.table.specs.Format.{actors_of, mailboxes_of, mutexes_of, count_of}
 use Rattle.model.specs.Site.{Site}
 use Rattle.model.specs.Report.{journal_bytes, report}
-use Rattle.state.specs.Arrays.{arrays}
 use Rattle.state.specs.State.{journal_of, site_of}
 use Rattle.writing.specs.Written.{Wrote}
 use Rattle.actor_sections.specs.Parts.{actors_bytes, actions_bytes}
@@ -38,14 +37,14 @@ abbrev whole : (s : tie.Start) → List ℕ
 whole s = sec1 s ++ (sec2 s ++ (sec3 s ++ (sec4 s ++ sec5 s)))
 
 abbrev site : (s : tie.Start) → Site
-site s = site_of s.args.actors (arrays s.args.comms.now s.args.log.now s.args.ends.now s.args.queues.now s.args.journal.now)
+site s = site_of s.args.actors s.args.comms.now s.args.log.now s.args.ends.now s.args.queues.now s.args.journal.now
 
 same : (s : tie.Start) → whole s ≡ report s.args.table.now (site s)
 unfolding report
 same s = refl
 
 fits : (s : tie.Start) → length (whole s) ≤ length s.args.buf.now
-fits s = subst (λ (l : List ℕ). length l ≤ length s.args.buf.now) (sym (same s)) s.requires.fits
+fits s = subst (λ (l : List ℕ). length l ≤ length s.args.buf.now) (sym (same s)) s.requires.room
 
 actors-requires : tie.Need-actors-requires
 actors-requires c κs = search rules
@@ -120,7 +119,7 @@ actions-part-requires c κs =
     let b = c.before in
     let s = start1 b in
     let n = sym b.before.before.before.before.actors.ensures in (
-      s.pre.room.mail.comms-room,
+      s.pre.mail-room.comms-room,
       subst (λ (k : ℕ). k ≤ 8) n s.pre.accepted.actors-most,
       subst (λ (k : ℕ). (a : ℕ) → a < k → count_of s.args.table.now a ≤ 32) n s.pre.accepted.actions-most,
       subst (λ (k : ℕ). length (actions_bytes s.args.table.now s.args.comms.now k) ≤ length (rest (at1 b) (buf1 b))) n (section-room (sec2 s) (sec3 s ++ (sec4 s ++ sec5 s)) (begun1 b)),
@@ -160,7 +159,7 @@ boxes-part-requires c κs =
     let b = c.before.before in
     let s = start1 (past2 b) in
     let n = sym c.before.mailboxes.ensures in (
-      s.pre.room.mail.log-room,
+      s.pre.mail-room.log-room,
       subst (λ (k : ℕ). k ≤ 8) n s.pre.accepted.mailboxes-most,
       subst (λ (k : ℕ). length (boxes_bytes s.args.log.now s.args.ends.now k) ≤ length (rest (at2 b) (buf2 b))) n (section-room (sec3 s) (sec4 s ++ sec5 s) (begun2 b)),
     )
@@ -200,7 +199,7 @@ mutexes-part-requires c κs =
     let b = c.before.before in
     let s = start1 (past2 (past3 b)) in
     let n = sym c.before.mutexes.ensures in (
-      s.pre.room.queue,
+      s.pre.queue-room,
       subst (λ (k : ℕ). k ≤ 8) n s.pre.accepted.mutexes-most,
       subst (λ (k : ℕ). length (mutexes_bytes s.args.queues.now k) ≤ length (rest (at3 b) (buf3 b))) n (section-room (sec4 s) (sec5 s) (begun3 b)),
     )
@@ -233,7 +232,7 @@ part-part-end : tie.Need-slice-bounds-part-end
 part-part-end c = search rules
 
 part-requires : tie.Need-part-requires
-part-requires c κs = let b = c.before in ((start1 (past2 (past3 (past4 b)))).requires.room.journal, left-room (begun4 b))
+part-requires c κs = let b = c.before in ((start1 (past2 (past3 (past4 b)))).requires.journal-room, left-room (begun4 b))
 
 -- and the journal
 add-result : tie.Need-overflow-add-result

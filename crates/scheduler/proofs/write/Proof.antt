@@ -1,12 +1,10 @@
 -- `scheduler::write` meets its contract. The loop's invariant: the actors of the first i names are written. Assumes nothing.
-use mathlib.Core.Path.{◌≡◌, refl, ◌∙◌, ap, ap₂}
+use mathlib.Core.Path.{◌≡◌, refl, ◌∙◌, ap}
 use mathlib.Core.List.{List}
 use Prim.Native.Nat.{ℕ, ◌-◌, ◌≤◌}
 use native.Mathlib.Omega.{arith}
-use borrow.Author.Rules.{rules}
 use lib.ListN.{length, get_or, set}
-use Rattle.scheduler.specs.Parts.{actor_in}
-use Rattle.scheduler.proofs.Entries.{written, written-long, written_next}
+use Rattle.scheduler.proofs.Entries.{actor_in, written, written-long, written_next}
 use Rattle.scheduler.proofs.write.Statement.{statement}
 use Rattle.scheduler.proofs.write.Tie as tie
 
@@ -17,47 +15,37 @@ abbrev decreases-loop : tie.decreases-loop
 decreases-loop names n entries₀ i₀ entries i = n - i
 
 -- the lent bytes keep their number
-long : (l : tie.At-loop invariant-loop decreases-loop) → length l.loop.entries ≡ length l.before.before.args.entries.now
+long : (l : tie.At-loop invariant-loop decreases-loop) → length l.loop.entries ≡ length l.before.args.entries.now
 long l =
-    let p = l.before.before.requires in
-    let x = l.before.before.args in
+    let p = l.before.requires in
+    let x = l.before.args in
     ap length l.loop.invariant.1
     ∙ written-long x.names.now x.entries.now l.loop.i (omega (arith, p.0, p.1, l.loop.invariant.0)) (omega (arith, p.1, p.2, l.loop.invariant.0))
 
 loop-holds : tie.Need-loop-init invariant-loop decreases-loop
 loop-holds c = (omega arith, refl)
 
-element-copy-out-wide : tie.Need-element-copy-out-wide invariant-loop decreases-loop
-element-copy-out-wide c = omega (arith, c.loop-test.true, c.before.before.before.requires.1)
-
-wide-requires : tie.Need-wide-requires invariant-loop decreases-loop
-wide-requires c κs = search rules
-
-actor-requires : tie.Need-actor-requires invariant-loop decreases-loop
-actor-requires c κs = c.wide.ensures.1
-
-cast-entries : tie.Need-overflow-cast-entries invariant-loop decreases-loop
-cast-entries c = omega (arith, c.actor.ensures.1)
+element-copy-out-entries : tie.Need-element-copy-out-entries invariant-loop decreases-loop
+element-copy-out-entries c = omega (arith, c.loop-test.true, c.before.before.requires.1)
 
 slice-write-entries : tie.Need-slice-write-entries invariant-loop decreases-loop
-slice-write-entries c =
-    let t = c.before.before.before in omega (arith, t.loop-test.true, t.before.before.before.requires.1, t.before.before.before.requires.2, long t.before)
+slice-write-entries c = let t = c.before in omega (arith, t.loop-test.true, t.before.before.requires.1, t.before.before.requires.2, long t.before)
 
 add-i : tie.Need-overflow-add-i invariant-loop decreases-loop
-add-i c = let t = c.before.before.before in omega (arith, t.loop-test.true, t.before.before.before.requires.1)
+add-i c = let t = c.before in omega (arith, t.loop-test.true, t.before.before.requires.1)
 
 loop-less : tie.Need-loop-smaller invariant-loop decreases-loop
-loop-less c = omega (arith, c.before.before.before.loop-test.true)
+loop-less c = omega (arith, c.before.loop-test.true)
 
 loop-again : tie.Need-loop-preserved invariant-loop decreases-loop
 loop-again c =
-    let t = c.before.before.before in
+    let t = c.before in
     let l = t.before.loop in
-    let p = t.before.before.before.requires in
-    let x = t.before.before.before.args in
+    let p = t.before.before.requires in
+    let x = t.before.before.args in
     let more = t.loop-test.true in (
       omega arith,
-      ap₂ (λ (e : List ℕ) (v : ℕ). set e l.i v) l.invariant.1 (c.actor.ensures.0 ∙ ap actor_in c.before.wide.ensures.0)
+      ap (λ (e : List ℕ). set e l.i (actor_in (get_or x.names.now l.i 0))) l.invariant.1
           ∙ written_next x.names.now x.entries.now l.i (omega (arith, p.0, p.1)) (omega (arith, p.1, p.2)),
     )
 
@@ -66,7 +54,7 @@ same_length c = long c.before
 
 returns : tie.Need-returns invariant-loop decreases-loop
 returns c =
-    let x = c.before.before.before.args in
+    let x = c.before.before.args in
     let all : c.before.loop.i ≡ x.n = omega (arith, c.loop-test.false, c.before.loop.invariant.0) in
     c.before.loop.invariant.1 ∙ ap (written x.names.now x.entries.now) all
 
@@ -77,10 +65,7 @@ write_spec =
     invariant-loop
     decreases-loop
     loop-holds
-    element-copy-out-wide
-    wide-requires
-    actor-requires
-    cast-entries
+    element-copy-out-entries
     slice-write-entries
     add-i
     loop-less

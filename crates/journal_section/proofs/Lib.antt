@@ -1,2 +1,0 @@
--- The bytes of the journal, from its array.
-pub mod Bytes

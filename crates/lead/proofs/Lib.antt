@@ -1,3 +1,0 @@
--- What a turn rests on, and that every rule chooses.
-pub mod Ranks
-pub mod Choices

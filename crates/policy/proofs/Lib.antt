@@ -1,0 +1,3 @@
+-- What a turn leans on.
+pub mod Ranks
+pub mod Choices

@@ -1,0 +1,2 @@
+-- The rule of each policy, and what a turn is.
+pub mod Parts

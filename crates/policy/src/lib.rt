@@ -1,0 +1,75 @@
+// Whose turn it is: the ways in which a maker of schedules chooses the actor that is stepped next. `specs/Parts` says which rule of the model each is.
+ghost use Rattle.std.specs.Prelude.{◌≡◌, ℕ, ◌*◌, ◌%◌, ◌^◌, ◌<◌, Bool, count_ones};
+ghost use Rattle.model.specs.Ready.{mask_of};
+ghost use Rattle.model.specs.Draw.{draw as model_draw, ranked as model_ranked, drawing};
+ghost use Rattle.policy.specs.Parts.{rule_of, kept_of, TurnRight};
+
+// A way to choose, with what it keeps from turn to turn: the draw keeps its x.
+#[derive(Drop)]
+pub struct Policy {
+    x: u32,
+}
+
+// A turn: the actor that is stepped, and the policy after it.
+#[derive(Drop)]
+pub struct Turn {
+    pub actor: usize,
+    pub policy: Policy,
+}
+
+impl Policy {
+    // The drawn schedule of a seed.
+    pub fn drawn(seed: u32) -> Self
+        ensures { (rule_of result ≡ drawing) × (kept_of result ≡ seed) }
+    {
+        Policy { x: seed }
+    }
+
+    // The turn where the actors of a mask are ready, one at least.
+    pub fn turn(self, mask: u32) -> Turn
+        requires { 0 < count_ones mask }
+        ensures { TurnRight self mask result }
+    {
+        let old = self.x;
+        let x = draw(old);
+        let rank = x / 65536 % u32::count_ones(mask);
+        Turn {
+            actor: ranked(mask, rank),
+            policy: Policy { x },
+        }
+    }
+}
+
+// What a draw makes of x.
+fn draw(x: u32) -> u32
+    ensures { result ≡ model_draw x }
+{
+    std::num::wrapping_add_u32(product(1664525, x), 1013904223)
+}
+
+// The product modulo 2^32.
+fn product(x: u32, y: u32) -> u32
+    ensures { result ≡ x * y % 2 ^ 32 }
+{
+    (x as u64 * y as u64 % 4294967296) as u32
+}
+
+// The place of the one of a rank among the ones of a mask, both counted from 0, from the lowest up.
+fn ranked(mask: u32, rank: u32) -> usize
+    requires { rank < count_ones mask }
+    ensures { (f : ℕ → Bool) (n : ℕ) → mask ≡ mask_of f n 0 → result ≡ model_ranked f n 0 rank }
+{
+    let mut m = mask;
+    let mut r = rank;
+    let mut a = 0;
+    while 0 < m {
+        let b = m % 2;
+        if r < b {
+            return a;
+        }
+        r -= b;
+        m = m / 2;
+        a += 1;
+    }
+    a
+}

@@ -1,2 +1,0 @@
--- What a maker of schedules writes.
-pub mod Parts
