@@ -1,4 +1,6 @@
 // An action by the number of its kind, the mailbox or mutex that it is on, and what it lists.
+#![tactic(auto)]
+
 ghost use Rattle.std.specs.Prelude.{◌≡◌};
 ghost use Rattle.model.specs.Views.{listed};
 ghost use Rattle.actions.specs.Fields.{kind_of, target_of, list_of};

@@ -1,5 +1,7 @@
 // The report's sections of the actors and of their actions. Each writer puts its bytes at the front of the part that it is lent, and answers with
 // their number.
+#![tactic(auto)]
+
 ghost use Rattle.std.specs.Prelude.{◌∷◌, ℕ, ◌<◌, ◌≤◌, ◌^◌, length, get_or};
 ghost use Rattle.table.specs.Format.{count_of};
 ghost use Rattle.model.specs.Report.{long, parts, actor_bytes, comm_bytes};

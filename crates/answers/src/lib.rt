@@ -1,4 +1,6 @@
 // The answers of the public calls and their refusals. `specs/Answers` says what each stands for in the documents.
+#![tactic(auto)]
+
 ghost use Rattle.std.specs.Prelude.{◌≡◌};
 ghost use Rattle.table.specs.Outcome.{number_of, position_of};
 ghost use Rattle.model.specs.Schedule.{first_numbers, second_numbers};

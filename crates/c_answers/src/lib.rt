@@ -1,5 +1,7 @@
 // The calls' answers as the structs of `include/order.h`. `refusal` is 0 where accepted, and then the answer follows; otherwise it is the refusal's number,
 // with its position. What does not apply is 0. A remainder is always given.
+#![tactic(auto)]
+
 ghost use Rattle.std.specs.Prelude.{◌≡◌};
 ghost use Rattle.table.specs.Answer.{outcome};
 ghost use Rattle.model.specs.Calls.{gives};

@@ -1,4 +1,6 @@
 // What the calls on two schedules share: each schedule is stepped from a fresh site, and only the names of its steps are kept.
+#![tactic(auto)]
+
 ghost use Rattle.std.specs.Prelude.{◌≡◌, length};
 ghost use Rattle.table.specs.Promise.{WellFormed};
 ghost use Rattle.comparison.specs.Traces.{Handed, Traced, Following, Judged, ComparedRight};

@@ -1,4 +1,6 @@
 // The pair verdict: whether two steps are dependent, by a table of comparison codes.
+#![tactic(auto)]
+
 ghost use Rattle.std.specs.Prelude.{◌≡◌, ◌≤◌, ◌&&◌, eqb, leb};
 ghost use Rattle.table.specs.Kinds.{last_kind};
 ghost use Rattle.table.specs.Decode.{action_of};

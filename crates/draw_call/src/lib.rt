@@ -1,4 +1,6 @@
 // The draw call: 23, then the table, then the schedule that a seed determines.
+#![tactic(auto)]
+
 ghost use Rattle.std.specs.Prelude.{◌≡◌};
 ghost use Rattle.model.specs.Draw.{draw_of};
 ghost use Rattle.answers.specs.Answers.{length_result};

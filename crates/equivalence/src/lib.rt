@@ -1,4 +1,6 @@
 // The same verdict: whether two schedules are one run, by the names of their steps and what each step touches.
+#![tactic(auto)]
+
 ghost use Rattle.std.specs.Prelude.{◌≡◌, suc, ◌<◌, ◌≤◌, length, replicate};
 ghost use Rattle.model.specs.Pair.{depends};
 ghost use Rattle.names.specs.Names.{names_in};

@@ -1,4 +1,6 @@
 // An execution: the table read, and a schedule stepped from a fresh site. It ends in a state, held in arrays, or in a refusal.
+#![tactic(auto)]
+
 ghost use Rattle.std.specs.Prelude.{◌≡◌, length};
 ghost use Rattle.play.specs.Parts.{Empty};
 ghost use Rattle.execution.specs.Parts.{Executed};

@@ -1,4 +1,6 @@
 // One action's eight bytes: its kind, its fields in range, its list allowed, its unused bytes 0.
+#![tactic(auto)]
+
 ghost use Rattle.std.specs.Prelude.{◌≡◌, ◌≤◌, length, true};
 ghost use Rattle.table.specs.Outcome.{demand};
 ghost use Rattle.table.specs.Format.{mailboxes_of, mutexes_of, value_at, place_of};

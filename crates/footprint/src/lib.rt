@@ -1,5 +1,7 @@
 // What a step touches, for a verdict that asks of many pairs of steps: it passes the steps one after another, and keeps by resource the latest place
 // among those that post to it, and among those that look at it.
+#![tactic(auto)]
+
 ghost use Rattle.std.specs.Prelude.{◌≡◌, [], ◌∷◌, ◌<◌, ◌≤◌, max, get_or, set};
 ghost use Rattle.table.specs.Promise.{WellFormed};
 ghost use Rattle.model.specs.Site.{name};

@@ -1,4 +1,6 @@
 // The site's journal: a Note adds its entry at the end, and the report's last section is written from it.
+#![tactic(auto)]
+
 ghost use Rattle.std.specs.Prelude.{◌≡◌, [], ◌∷◌, ◌++◌, ◌+◌, ◌<◌, ◌≤◌, length};
 ghost use Rattle.model.specs.Report.{journal_bytes};
 ghost use Rattle.names.specs.InByte.{name_of};

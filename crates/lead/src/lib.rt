@@ -1,4 +1,6 @@
 // Who leads a schedule, the lent entries or a policy: what is due, and what a policy may take as known of the last step.
+#![tactic(auto)]
+
 ghost use Rattle.std.specs.Prelude.{◌≡◌, true, ◌-◌, ◌<◌, ◌≤◌};
 ghost use Rattle.std.specs.Int.Count.{ones};
 ghost use Rattle.table.specs.Format.{actors_of, count_of};

@@ -1,4 +1,6 @@
 // The lines of a listing. Each writer puts its lines at the front of the part that it is lent, and answers with their length.
+#![tactic(auto)]
+
 ghost use Rattle.std.specs.Prelude.{◌++◌, ◌*◌, ◌≤◌, ◌/◌, ◌%◌, length};
 ghost use Rattle.model.specs.Text.{line};
 ghost use Rattle.model.specs.Listing.{end_text, refused_text, step_text};

@@ -1,4 +1,6 @@
 // The listing of a run: its steps, a line each, and its ending; or its refusal.
+#![tactic(auto)]
+
 ghost use Rattle.std.specs.Prelude.{◌≡◌, List, ℕ, ◌≤◌, length, take};
 ghost use Rattle.model.specs.Listing.{listing_of, table_read, schedule_read};
 ghost use Rattle.writing.specs.Written.{Wrote};

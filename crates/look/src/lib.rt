@@ -1,4 +1,6 @@
 // What a step sees of the rest of the state.
+#![tactic(auto)]
+
 ghost use Rattle.std.specs.Prelude.{◌≡◌, ℕ, ◌<◌, ◌≤◌, cond, [], ◌∷◌, leb};
 ghost use Rattle.table.specs.Promise.{number as number_at};
 ghost use Rattle.model.specs.Views.{listed};

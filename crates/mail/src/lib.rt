@@ -1,5 +1,7 @@
 // The mailboxes: a Send and a Receive pair with the oldest step that is pending on the other side, or join their own side's end. A call takes the
 // same time however many steps are pending.
+#![tactic(auto)]
+
 ghost use Rattle.std.specs.Prelude.{◌≡◌, ◌+◌, ◌*◌, ◌^◌, ◌<◌, length, set};
 ghost use Rattle.model.specs.Mail.{carried as carried_by};
 ghost use Rattle.names.specs.InByte.{name_of};

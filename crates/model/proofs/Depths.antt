@@ -3,7 +3,7 @@
 -- Assumes nothing.
 use Prim.Native.Nat.{ℕ, ◌≤◌}
 use native.Mathlib.Omega.{arith}
-use mathlib.Core.Path.{◌≡◌, refl, sym, ◌∙◌, ap}
+use mathlib.Core.Path.{◌≡◌, refl, sym, ◌∙◌, ap, subst}
 use mathlib.Core.Logic.{◌⊎◌, inl, inr}
 use mathlib.Core.Bool.{true, false}
 use mathlib.Core.List.{List, [], ◌∷◌}
@@ -47,9 +47,11 @@ module _ (table : List ℕ) where
           → depth_in ((final (machine table) s (a ∷ p)).queue m) b
           ≡ balance table m (own_steps b (names (machine table) s (a ∷ p))) (depth_in (s.queue m) b)
       go (inl e) rest =
-          rw (e, eqb-true b a e)
-          ((rw (eqb-true b a e) at rest)
-          ∙ ap (balance table m (own_steps a (names (machine table) (step table s a) p))) (step-own s a m r))
+          rw e
+          (rest
+          ∙ ap (balance table m (own_steps b (names (machine table) (step table s a) p)))
+          (subst (λ (w : ℕ). depth_in ((step table s a).queue m) w ≡ counted m (posts (next_action table s a)) (depth_in (s.queue m) w))
+          (sym (eqb-true b a e)) (step-own s a m r)))
       go (inr e) rest =
           rw e
           (rest

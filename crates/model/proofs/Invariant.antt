@@ -12,7 +12,7 @@ use borrow.Author.Tests.{eqb-true, eqb-false}
 use Rattle.trace.specs.Machine.{Name}
 use Rattle.trace.specs.Order.{mem}
 use Rattle.trace.proofs.Bools.{which}
-use Rattle.trace.proofs.Names.{mem-head, mem-tail, mem-cases}
+use Rattle.trace.proofs.Names.{mem-head, mem-here, mem-tail, mem-cases}
 use Rattle.model.specs.Site.{Actor, Port, opposite, eq_port, Mail, Site, initial}
 use Rattle.model.specs.Views.{Post, silent, mails, joins, leaves, notes, posts}
 use Rattle.model.specs.Mail.{meet_with, mailing}
@@ -59,7 +59,7 @@ mem-append z x (y ∷ l) h = go (mem-cases z y (l ++ (x ∷ [])) h) (mem-append 
 
     go : (z ≡ y) ⊎ (mem z (l ++ (x ∷ [])) ≡ true) → (mem z (l ++ (x ∷ [])) ≡ true → (z ≡ x) ⊎ (mem z l ≡ true))
         → (z ≡ x) ⊎ (mem z (y ∷ l) ≡ true)
-    go (inl e) rest = inr (rw e (mem-head y l))
+    go (inl e) rest = inr (mem-here z y l e)
     go (inr m) rest = later (rest m)
 
 -- what is pending after a meeting: the step itself at its port, and what was pending before

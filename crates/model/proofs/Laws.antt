@@ -41,7 +41,7 @@ module _ (table : List ℕ) (a b : ℕ) (ne : a ≢ b) (s : Site) where
     where
       go : (not (waits x) ≡ true) ⊎ (is_seen (see s a (looks x)) ≡ true) → passes table (step table s b) a x ≡ true
       go (inl q) = or_left (not (waits x)) _ q
-      go (inr q) = or_right (not (waits x)) _ (still-sees a b ne s _ (s.actor b).position _ _ (posts (next_action table s b)) (looks x) q)
+      go (inr q) = or_right (not (waits x)) _ (still-sees a b ne s (step table s b).actor (s.actor b).position (sent (next_action table s b) (s.actor b).cells) (step table s b).journal (posts (next_action table s b)) (looks x) q)
 
   pub ready-lasts : ready table s a ≡ true → ready table (step table s b) a ≡ true
   unfolding ready
@@ -141,7 +141,7 @@ module _ (table : List ℕ) (a b : ℕ) (ne : a ≢ b) (s : Site) (i : Inv table
       → see (step table s a) b (looks (next_action table s b)) ≡ see s b (looks (next_action table s b))
   unfolding step
   look-same h =
-      sees-same b a (λ e. ne (sym e)) s _ (s.actor a).position _ _ table i (posts (next_action table s a)) (looks (next_action table s b)) h
+      sees-same b a (λ e. ne (sym e)) s (step table s a).actor (s.actor a).position (sent (next_action table s a) (s.actor a).cells) (step table s a).journal table i (posts (next_action table s a)) (looks (next_action table s b)) h
 
 -- both orders of two independent steps end in one state
 module _ (table : List ℕ) (a b : ℕ) (ne : a ≢ b) (s : Site) (i : Inv table s) where

@@ -3,7 +3,7 @@
 -- Assumes nothing.
 use Prim.Native.Nat.{ℕ, zero, suc, ◌+◌, ◌≤◌, ◌<◌}
 use native.Mathlib.Omega.{arith}
-use mathlib.Core.Path.{◌≡◌, refl, ap}
+use mathlib.Core.Path.{◌≡◌, refl, ap, sym, subst}
 use mathlib.Core.Logic.{◌⊎◌, inl, inr, ◌≢◌}
 use mathlib.Core.Bool.{Bool, true, false, false≢true}
 use mathlib.Core.List.{List, [], ◌∷◌, ◌++◌}
@@ -16,7 +16,7 @@ use Rattle.trace.specs.Order.{mem, Distinct}
 use Rattle.trace.specs.Inversions.{count}
 use Rattle.trace.specs.Route.{remove}
 use Rattle.trace.proofs.Bools.{which, contrary}
-use Rattle.trace.proofs.Names.{mem-head, mem-tail, mem-cases}
+use Rattle.trace.proofs.Names.{mem-head, mem-here, mem-tail, mem-cases}
 use Rattle.trace.proofs.Remove.{mem-remove}
 use Rattle.trace.proofs.Count.{count-remove}
 use Rattle.model.specs.Site.{name}
@@ -58,7 +58,7 @@ mem_append_left x [] m h = absurd (false≢true h)
 mem_append_left x (y ∷ l) m h = go (mem-cases x y l h) (mem_append_left x l m)
   where
     go : (x ≡ y) ⊎ (mem x l ≡ true) → (mem x l ≡ true → mem x (l ++ m) ≡ true) → mem x (y ∷ (l ++ m)) ≡ true
-    go (inl e) rest = rw e (mem-head y (l ++ m))
+    go (inl e) rest = mem-here x y (l ++ m) e
     go (inr n) rest = mem-tail x y (l ++ m) (rest n)
 
 pub mem_append_right : (x : Name) (l m : List Name) → mem x m ≡ true → mem x (l ++ m) ≡ true
@@ -70,7 +70,9 @@ row-mem a zero k j l h = absurd (omega arith)
 row-mem a (suc n) k j l h = go (which (eqb j k)) (λ e. row-mem a n (suc k) j e (omega arith))
   where
     go : (eqb j k ≡ true) ⊎ (eqb j k ≡ false) → (suc k ≤ j → mem (name a j) (row a n (suc k)) ≡ true) → mem (name a j) (row a (suc n) k) ≡ true
-    go (inl e) rest = rw (eqb-true j k e) (mem-head (name a k) (row a n (suc k)))
+    go (inl e) rest =
+        subst (λ (w : ℕ). mem (name a w) (row a (suc n) k) ≡ true) (sym (eqb-true j k e))
+        (mem-head (name a k) (row a n (suc k)))
     go (inr e) rest =
         let ne : j ≢ k = eqb-false j k e in
         mem-tail (name a j) (name a k) (row a n (suc k)) (rest (omega arith))

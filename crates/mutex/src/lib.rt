@@ -1,4 +1,6 @@
 // The mutexes' queues: Lock joins a queue's end or adds to a depth, Unlock takes off a depth or leaves, and the first in the queue owns the mutex.
+#![tactic(auto)]
+
 ghost use Rattle.std.specs.Prelude.{◌≡◌, ◌+◌, ◌<◌, ◌≤◌, eqb, length, take, drop};
 ghost use Rattle.model.specs.Site.{upd};
 ghost use Rattle.model.specs.Mutex.{owns, join as joined, leave as left};

@@ -1,4 +1,6 @@
 // The public calls, each from a crate of its own. Each answers for every input, and none has a `requires`.
+#![tactic(auto)]
+
 pub use draw_call::draw;
 pub use page_call::page;
 pub use pair_call::pair;

@@ -1,4 +1,6 @@
 // The calls for C and Rust. A slice is a pointer and a number of elements. `include/order.h` has the prototypes.
+#![tactic(auto)]
+
 ghost use Rattle.std.specs.Prelude.{◌≡◌, length};
 ghost use Rattle.table.specs.Read.{read_of};
 ghost use Rattle.model.specs.Site.{name};

@@ -1,5 +1,7 @@
 // The page of a state: a line for each actor, each into the rest of the lent bytes after the line before it. Each writer puts its text at the
 // front of the part that it is lent, and answers with its length.
+#![tactic(auto)]
+
 ghost use Rattle.std.specs.Prelude.{◌≡◌, ◌∷◌, ◌<◌, ◌≤◌, length};
 ghost use Rattle.model.specs.Text.{space, left, line};
 ghost use Rattle.model.specs.Page.{status_word, cells_text, actor_text};

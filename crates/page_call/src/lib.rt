@@ -1,4 +1,6 @@
 // The page call: 20, then the table and the schedule, then the page of the end.
+#![tactic(auto)]
+
 ghost use Rattle.std.specs.Prelude.{◌≡◌};
 ghost use Rattle.model.specs.Page.{page_of};
 ghost use Rattle.answers.specs.Answers.{length_result};

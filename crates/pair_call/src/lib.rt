@@ -1,4 +1,6 @@
 // The pair call: the table, the two names, then the verdict on the steps.
+#![tactic(auto)]
+
 ghost use Rattle.std.specs.Prelude.{◌≡◌};
 ghost use Rattle.model.specs.Calls.{in_table, pair_of};
 ghost use Rattle.model.specs.Site.{name};

@@ -1,4 +1,6 @@
 // A schedule from a fresh site, a lent one or one that a policy makes: each entry's step in turn, as far as the first entry that is refused.
+#![tactic(auto)]
+
 ghost use Rattle.play.specs.Parts.{Fresh, PlayedRight, schedule_by, played_by};
 
 use answers::Stop;

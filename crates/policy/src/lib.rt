@@ -1,4 +1,6 @@
 // Whose turn it is: the ways in which a maker of schedules chooses the actor that is stepped next. `specs/Parts` says which rule of the model each is.
+#![tactic(auto)]
+
 ghost use Rattle.std.specs.Prelude.{◌≡◌, ℕ, ◌*◌, ◌%◌, ◌^◌, ◌<◌, Bool, count_ones};
 ghost use Rattle.model.specs.Ready.{mask_of};
 ghost use Rattle.model.specs.Draw.{draw as model_draw, ranked as model_ranked, drawing};

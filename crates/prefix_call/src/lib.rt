@@ -1,4 +1,6 @@
 // The verdict on two recordings: the longer is held to the length of the shorter, and the rest of it is not looked at.
+#![tactic(auto)]
+
 ghost use Rattle.std.specs.Prelude.{◌≡◌};
 ghost use Rattle.model.specs.Recordings.{prefix_comparison_of};
 ghost use Rattle.answers.specs.Answers.{same_result};

@@ -1,5 +1,7 @@
 // The report's sections of the mailboxes and of the mutexes. Each writer puts its bytes at the front of the part that it is lent, and answers with
 // their number.
+#![tactic(auto)]
+
 ghost use Rattle.std.specs.Prelude.{◌≡◌, ◌+◌, ◌-◌, ◌*◌, ◌<◌, ◌≤◌, length};
 ghost use Rattle.model.specs.Report.{box_bytes, mutex_bytes};
 ghost use Rattle.state.specs.State.{head_in, tail_in, queues_of, LogRoom, QueueRoom};

@@ -1,4 +1,6 @@
 // The table reader: which files are task tables. The header, the directory, the file's end, and the actions of every actor, in file order.
+#![tactic(auto)]
+
 ghost use Rattle.std.specs.Prelude.{◌≡◌, ◌+◌, ◌*◌, ◌≤◌, length};
 ghost use Rattle.table.specs.Outcome.{each, ◌⨾◌};
 ghost use Rattle.table.specs.Format.{mailboxes_of, mutexes_of};

@@ -1,4 +1,6 @@
 // The ready answer of a state: the mask, how many actors are ready, and the ending.
+#![tactic(auto)]
+
 ghost use Rattle.std.specs.Prelude.{◌≡◌, ◌≢◌, true, cond, ℕ, ◌+◌, ◌-◌, ◌^◌, ◌<◌, ◌≤◌, List, length};
 ghost use Rattle.table.specs.Format.{actors_of, count_of};
 ghost use Rattle.model.specs.Ready.{bit as as_bit, bit_of, ready_mask, ready_answer};

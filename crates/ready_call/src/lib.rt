@@ -1,4 +1,6 @@
 // The ready call: the table and the schedule, then who is ready at the end.
+#![tactic(auto)]
+
 ghost use Rattle.std.specs.Prelude.{◌≡◌};
 ghost use Rattle.model.specs.Calls.{ready_of};
 ghost use Rattle.answers.specs.Answers.{ready_result};

@@ -1,4 +1,6 @@
 // The remainder of the longer of two recordings, as a part of the caller's own bytes.
+#![tactic(auto)]
+
 ghost use Rattle.std.specs.Prelude.{◌≡◌};
 ghost use Rattle.model.specs.Recordings.{remainder_of, slice_of, remainder_in};
 ghost use Rattle.answers.specs.Answers.{part_of};

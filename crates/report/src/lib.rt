@@ -1,4 +1,6 @@
 // The state report: each section goes into the rest of the lent bytes after the section before it.
+#![tactic(auto)]
+
 ghost use Rattle.model.specs.Report.{report};
 ghost use Rattle.state.specs.State.{site_of};
 ghost use Rattle.writing.specs.Written.{Wrote};

@@ -1,4 +1,6 @@
 // The route call: refused as the same call is, then 19 and 18, then a route.
+#![tactic(auto)]
+
 ghost use Rattle.std.specs.Prelude.{◌≡◌, ◌≤◌};
 ghost use Rattle.model.specs.Route.{most_exchanges, RightRoute};
 ghost use Rattle.answers.specs.Answers.{length_result};

@@ -1,5 +1,7 @@
 // The exchange route between two lists of the same step names, as positions. Each step of the second list in turn is pulled to its place through
 // the steps that stand before it in what is left of the first.
+#![tactic(auto)]
+
 ghost use Rattle.std.specs.Prelude.{◌≡◌, ◌++◌, ◌+◌, ◌≤◌, length, drop};
 ghost use Rattle.trace.specs.Route.{pull};
 ghost use Rattle.writing.specs.Written.{Wrote};

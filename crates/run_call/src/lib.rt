@@ -1,4 +1,6 @@
 // The run call: 10, then the table and the schedule, then the report of the end.
+#![tactic(auto)]
+
 ghost use Rattle.std.specs.Prelude.{◌≡◌};
 ghost use Rattle.model.specs.Calls.{run_of};
 ghost use Rattle.answers.specs.Answers.{length_result};

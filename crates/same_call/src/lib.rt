@@ -1,4 +1,6 @@
 // The same call: the table and both schedules, then the verdict on them.
+#![tactic(auto)]
+
 ghost use Rattle.std.specs.Prelude.{◌≡◌};
 ghost use Rattle.model.specs.Calls.{comparison_of};
 ghost use Rattle.answers.specs.Answers.{same_result};

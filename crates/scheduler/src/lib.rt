@@ -1,4 +1,6 @@
 // Makers of schedules: one turn after another, by a policy, until nobody is ready.
+#![tactic(auto)]
+
 ghost use Rattle.std.specs.Prelude.{◌≡◌, ◌++◌, map, ℕ, ◌/◌, ◌≤◌, length, take, drop};
 ghost use Rattle.model.specs.Scheduler.{maker_of};
 ghost use Rattle.answers.specs.Answers.{length_result};

@@ -1,4 +1,6 @@
 // The state in arrays: an actor's record and its local steps, and what its next step is. `specs/State` says which site of the model the arrays hold.
+#![tactic(auto)]
+
 ghost use Rattle.std.specs.Prelude.{◌≡◌, cond, ◌+◌, ◌<◌, ◌≤◌, min, ltb, length, get_or, set};
 ghost use Rattle.table.specs.declared.Action.TheVariants.{Add};
 ghost use Rattle.model.specs.Views.{total, largest, runs_over};

@@ -1,4 +1,6 @@
 // One step of one actor: it looks, its own record takes its local step, and it posts.
+#![tactic(auto)]
+
 ghost use Rattle.std.specs.Prelude.{◌≡◌, ◌+◌, ◌<◌, length, set};
 ghost use Rattle.table.specs.Format.{actors_of};
 ghost use Rattle.table.specs.Decode.{action_of};

@@ -1,4 +1,6 @@
 // The task table: its actions, the reader's answers, and what stands in an accepted table, read in place.
+#![tactic(auto)]
+
 ghost use Rattle.std.specs.Prelude.{◌≡◌};
 ghost use Rattle.table.specs.Outcome.{number_of, position_of};
 ghost use Rattle.table.specs.Answer.{outcome};

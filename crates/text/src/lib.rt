@@ -1,4 +1,6 @@
 // Text at the front of a lent part: bytes, numbers in decimal, in columns, and both. Each writer answers with the length of what it wrote.
+#![tactic(auto)]
+
 ghost use Rattle.std.specs.Prelude.{◌≡◌, ◌∷◌, ◌++◌, ◌+◌, ◌-◌, ◌<◌, ◌≤◌, length, replicate};
 ghost use Rattle.model.specs.Text.{decimal as decimal_of, digit as digit_of, right as right_of, space, line};
 ghost use Rattle.writing.specs.Written.{Wrote};

@@ -1,6 +1,6 @@
 -- Lists of step names: membership, order, and lists that hold no name twice.
 -- Assumes nothing.
-use mathlib.Core.Path.{◌≡◌, refl}
+use mathlib.Core.Path.{◌≡◌, refl, sym, subst}
 use mathlib.Core.Logic.{◌⊎◌, inl, inr}
 use mathlib.Core.Bool.{Bool, true, false, ◌&&◌, false≢true}
 use mathlib.Core.List.{List, [], ◌∷◌}
@@ -23,6 +23,9 @@ eq_name-true x y h =
 
 pub mem-head : (x : Name) (l : List Name) → mem x (x ∷ l) ≡ true
 mem-head x l = or_left _ _ (eq_name-refl x)
+
+pub mem-here : (x z : Name) (l : List Name) → x ≡ z → mem x (z ∷ l) ≡ true
+mem-here x z l e = subst (λ (w : Name). mem w (z ∷ l) ≡ true) (sym e) (mem-head z l)
 
 pub mem-tail : (x y : Name) (l : List Name) → mem x l ≡ true → mem x (y ∷ l) ≡ true
 mem-tail x y l h = or_right (eq_name x y) (mem x l) h
@@ -84,7 +87,7 @@ before-mem x y (z ∷ l) h = go (before-cases x y z l h) (before-mem x y l)
   where
     go : ((x ≡ z) × (mem y l ≡ true)) ⊎ (before x y l ≡ true) → (before x y l ≡ true → (mem x l ≡ true) × (mem y l ≡ true))
         → (mem x (z ∷ l) ≡ true) × (mem y (z ∷ l) ≡ true)
-    go (inl e) rest = (rw e.0 (mem-head z l), mem-tail y z l e.1)
+    go (inl e) rest = (mem-here x z l e.0, mem-tail y z l e.1)
     go (inr b) rest = (mem-tail x z l (rest b).0, mem-tail y z l (rest b).1)
 
 -- nothing stands before a name that the list does not hold

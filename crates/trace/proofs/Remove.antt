@@ -1,6 +1,6 @@
 -- A list of names without one of them.
 -- Assumes nothing.
-use mathlib.Core.Path.{◌≡◌, refl, sym, ◌∙◌}
+use mathlib.Core.Path.{◌≡◌, refl, sym, ◌∙◌, subst}
 use mathlib.Core.Logic.{◌⊎◌, inl, inr, ◌≢◌}
 use mathlib.Core.Bool.{true, false}
 use mathlib.Core.List.{List, [], ◌∷◌}
@@ -8,7 +8,7 @@ use Rattle.trace.specs.Machine.{Name}
 use Rattle.trace.specs.Order.{eq_name, mem, before, Distinct}
 use Rattle.trace.specs.Route.{remove}
 use Rattle.trace.proofs.Bools.{which, contrary, is_false}
-use Rattle.trace.proofs.Names.{eq_name-true, mem-head, mem-tail, mem-cases, before-cases, before-tail, before_head}
+use Rattle.trace.proofs.Names.{eq_name-true, mem-head, mem-here, mem-tail, mem-cases, before-cases, before-tail, before_head}
 
 -- what else the list holds is left
 pub mem-remove : (x y : Name) (u : List Name) → x ≢ y → mem x u ≡ true → mem x (remove y u) ≡ true
@@ -19,7 +19,7 @@ mem-remove x y (z ∷ u) ne m = go (which (eq_name y z)) (mem-cases x z u m) (me
         → mem x (remove y (z ∷ u)) ≡ true
     go (inl e) (inl h) rest = absurd (ne (h ∙ sym (eq_name-true y z e)))
     go (inl e) (inr n) rest = rw e n
-    go (inr e) (inl h) rest = rw e (rw h (mem-head z (remove y u)))
+    go (inr e) (inl h) rest = rw e (mem-here x z (remove y u) h)
     go (inr e) (inr n) rest = rw e (mem-tail x z (remove y u) (rest n))
 
 -- what is left was there
@@ -28,7 +28,7 @@ remove-mem x y [] h = h
 remove-mem x y (z ∷ u) h = go (which (eq_name y z)) (remove-mem x y u)
   where
     past : (x ≡ z) ⊎ (mem x (remove y u) ≡ true) → (mem x (remove y u) ≡ true → mem x u ≡ true) → mem x (z ∷ u) ≡ true
-    past (inl k) rest = rw k (mem-head z u)
+    past (inl k) rest = mem-here x z u k
     past (inr n) rest = mem-tail x z u (rest n)
 
     go : (eq_name y z ≡ true) ⊎ (eq_name y z ≡ false) → (mem x (remove y u) ≡ true → mem x u ≡ true) → mem x (z ∷ u) ≡ true
@@ -42,7 +42,7 @@ remove-before x w y (z ∷ u) h = go (which (eq_name y z)) (remove-before x w y 
   where
     past : ((x ≡ z) × (mem w (remove y u) ≡ true)) ⊎ (before x w (remove y u) ≡ true)
         → (before x w (remove y u) ≡ true → before x w u ≡ true) → before x w (z ∷ u) ≡ true
-    past (inl k) rest = rw k.0 (before_head z w u (remove-mem w y u k.1))
+    past (inl k) rest = subst (λ (v : Name). before v w (z ∷ u) ≡ true) (sym k.0) (before_head z w u (remove-mem w y u k.1))
     past (inr b) rest = before-tail x w z u (rest b)
 
     go : (eq_name y z ≡ true) ⊎ (eq_name y z ≡ false) → (before x w (remove y u) ≡ true → before x w u ≡ true) → before x w (z ∷ u) ≡ true

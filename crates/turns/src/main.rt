@@ -1,5 +1,7 @@
 // The listing program: reads `site.tab` and `order.sch` in the current folder and prints the listing of their run. An absent file reads as empty. Of a
 // file that is there and cannot be read it says why, on standard error, and prints no listing.
+#![tactic(auto)]
+
 ghost use Rattle.std.specs.Prelude.{◌≡◌, List, ℕ, ◌≤◌, length, take};
 ghost use Rattle.model.specs.Listing.{listing_of};
 

@@ -1,5 +1,7 @@
 // Writing into lent parts, one after another: the smallest writers, what a writer promises, and its laws. Each writer puts its bytes at the front of the
 // part that it is lent, and answers with their number.
+#![tactic(auto)]
+
 ghost use Rattle.std.specs.Prelude.{◌∷◌, [], ◌≤◌, length};
 ghost use Rattle.model.specs.Report.{long};
 ghost use Rattle.writing.specs.Written.{Wrote};

@@ -8,36 +8,23 @@ use lib.ListN.{length}
 use Rattle.table.specs.Format.{actors_of, offset_of, count_of, place_of}
 use Rattle.table.specs.Promise.{WellFormed}
 use borrow.Author.Rules.{rules}
-use Rattle.table.proofs.within.place.Statement.{statement}
-use Rattle.table.proofs.within.place.Tie as tie
+use Rattle.table.proofs.within.place.Goals as goal
 
 -- the last of the eight bytes lies within the file
 within : (b : List ℕ) (actor k first : ℕ) → WellFormed b → actor < actors_of b → k < count_of b actor → first ≡ offset_of b actor
     → first + 8 * k + 8 ≤ length b
 within b actor k first table in-actors in-actions e = omega (arith, table.inside actor in-actors, in-actions, e)
 
-mul-word : tie.Need-overflow-mul-word
-mul-word c = search rules
+pub overflow_mul-result : goal.overflow_mul-result
+overflow_mul-result c = let p = c.before.before.requires in omega (arith, p.0.actions-most _ p.1, p.2)
 
-add-word : tie.Need-overflow-add-word
-add-word c = search rules
+pub overflow_add-result : goal.overflow_add-result
+overflow_add-result c = let p = c.before.before.requires in omega (arith, p.0.actions-most _ p.1, p.2, c.word.ensures.1)
 
-word-requires : tie.Need-word-requires
-word-requires c κs = search rules
-
-mul-result : tie.Need-overflow-mul-result
-mul-result c = let p = c.before.before.requires in omega (arith, p.0.actions-most _ p.1, p.2)
-
-add-result : tie.Need-overflow-add-result
-add-result c = let p = c.before.before.requires in omega (arith, p.0.actions-most _ p.1, p.2, c.word.ensures.1)
-
-returns : tie.Need-returns
+pub returns : goal.returns
 returns c =
     let p = c.before.before.requires in
     let e = c.word.ensures.0 in (
       ap (λ (first : ℕ). place_of first c.before.before.args.k) e,
       within _ _ _ _ p.0 p.1 p.2 e,
     )
-
-pub place-spec : {M : Type 1} → statement M
-place-spec = tie.close (tie.spec mul-word add-word word-requires mul-result add-result returns)
