@@ -1,2 +1,3 @@
 -- Reading by stages.
 pub mod Stages
+pub mod Refusals

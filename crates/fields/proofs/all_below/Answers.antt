@@ -1,15 +1,10 @@
 -- `fields::all_below` meets its contract. The loop's invariant: the checks from i on are as good as all of them.
 -- Assumes nothing.
-use Prim.Native.Nat.{ℕ, ◌-◌, ◌≤◌}
-use mathlib.Core.Path.{◌≡◌, ◌∙◌, sym}
-use mathlib.Core.List.{List}
+use mathlib.Core.Path.{◌∙◌, sym}
 use native.Mathlib.Omega.{arith}
 use borrow.Author.Rules.{rules}
 use borrow.Author.Tests.{le-ltb, lt-ltb}
-use lib.Dec.{ltb}
-use Rattle.table.specs.Outcome.{Outcome, demand, each}
 use Rattle.table.proofs.Checks.{each-begin, each-go, each-stop, each-end}
-use Rattle.table.specs.Format.{listed_at}
 use Rattle.fields.proofs.all_below.Goals as goal
 use Rattle.fields.proofs.all_below.Invariants.{below}
 

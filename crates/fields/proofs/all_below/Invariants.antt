@@ -1,14 +1,10 @@
 -- The loop's invariant and measure.
 -- Assumes nothing.
 use Prim.Native.Nat.{ℕ, ◌-◌, ◌≤◌}
-use mathlib.Core.Path.{◌≡◌, ◌∙◌, sym}
+use mathlib.Core.Path.{◌≡◌}
 use mathlib.Core.List.{List}
-use native.Mathlib.Omega.{arith}
-use borrow.Author.Rules.{rules}
-use borrow.Author.Tests.{le-ltb, lt-ltb}
 use lib.Dec.{ltb}
 use Rattle.table.specs.Outcome.{Outcome, demand, each}
-use Rattle.table.proofs.Checks.{each-begin, each-go, each-stop, each-end}
 use Rattle.table.specs.Format.{listed_at}
 use Rattle.fields.proofs.all_below.Given as goal
 

@@ -1,15 +1,11 @@
 -- `fields::all_communications` meets its contract. The loop's invariant: the checks from i on are as good as all of them.
 -- Assumes nothing.
-use Prim.Native.Nat.{ℕ, ◌-◌, ◌≤◌}
-use mathlib.Core.Path.{◌≡◌, ◌∙◌, sym}
-use mathlib.Core.List.{List}
+use mathlib.Core.Path.{◌∙◌, sym}
 use native.Mathlib.Omega.{arith}
 use borrow.Author.Rules.{rules}
 use borrow.Author.Tests.{le-ltb, lt-ltb}
-use Rattle.table.specs.Outcome.{Outcome, demand, each}
 use Rattle.table.proofs.Checks.{each-begin, each-go, each-stop, each-end}
-use Rattle.table.specs.Format.{listed_at, place_of}
-use Rattle.table.specs.Read.{allowed}
+use Rattle.table.specs.Format.{place_of}
 use Rattle.fields.proofs.CommunicationKinds.{communications-below, communications-above, communications-between}
 use Rattle.fields.proofs.all_communications.Goals as goal
 use Rattle.fields.proofs.all_communications.Invariants.{listing-right}

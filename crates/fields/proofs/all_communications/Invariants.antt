@@ -1,16 +1,11 @@
 -- The loop's invariant and measure.
 -- Assumes nothing.
 use Prim.Native.Nat.{ℕ, ◌-◌, ◌≤◌}
-use mathlib.Core.Path.{◌≡◌, ◌∙◌, sym}
+use mathlib.Core.Path.{◌≡◌}
 use mathlib.Core.List.{List}
-use native.Mathlib.Omega.{arith}
-use borrow.Author.Rules.{rules}
-use borrow.Author.Tests.{le-ltb, lt-ltb}
 use Rattle.table.specs.Outcome.{Outcome, demand, each}
-use Rattle.table.proofs.Checks.{each-begin, each-go, each-stop, each-end}
 use Rattle.table.specs.Format.{listed_at, place_of}
 use Rattle.table.specs.Read.{allowed}
-use Rattle.fields.proofs.CommunicationKinds.{communications-below, communications-above, communications-between}
 use Rattle.fields.proofs.all_communications.Given as goal
 
 abbrev pub listing-right : List ℕ → ℕ → ℕ → ℕ → Outcome

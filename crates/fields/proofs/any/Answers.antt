@@ -1,7 +1,6 @@
 -- `fields::any` meets its contract: each answer is one way through the tests of an action with a list.
 -- `w` is the place at which z is read.
 -- Assumes nothing.
-use borrow.Author.Rules.{rules}
 use Rattle.table.specs.Format.{place_of}
 use Rattle.fields.specs.Parts.{all_communications}
 use Rattle.fields.proofs.Tests.{said-no, said-yes}

@@ -5,7 +5,6 @@ use Prim.Native.Nat.{ℕ}
 use lib.Dec.{ltb}
 use Rattle.table.specs.Outcome.{demand}
 use Rattle.fields.proofs.Blanks.{shifted, blank-size}
-use borrow.Author.Rules.{rules}
 use Rattle.fields.proofs.blank.Goals as goal
 
 pub returns : goal.returns

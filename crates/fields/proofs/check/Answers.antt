@@ -6,7 +6,6 @@ use Prim.Native.Nat.{ℕ}
 use Rattle.table.specs.Format.{place_of}
 use Rattle.fields.specs.Parts.{Plain}
 use Rattle.fields.proofs.Plainly.{plainly}
-use borrow.Author.Rules.{rules}
 use Rattle.fields.proofs.check.Goals as goal
 
 pub returns-then-plain : goal.returns-then-plain

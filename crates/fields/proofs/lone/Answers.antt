@@ -1,6 +1,5 @@
 -- `fields::lone` meets its contract: at each answer the tests on the way say how `lone_of` goes.
 -- Assumes nothing.
-use borrow.Author.Rules.{rules}
 use borrow.Author.Tests.{eq-eqb, ne_eqb}
 use Rattle.fields.proofs.Tests.{fails, holds, said-no, said-yes, is-over, is_below}
 use Rattle.fields.proofs.lone.Goals as goal

@@ -1,7 +1,6 @@
 -- `fields::mutex_any` meets its contract: each answer is one way through the tests of an action with a list.
 -- `w` is the place at which z is read.
 -- Assumes nothing.
-use borrow.Author.Rules.{rules}
 use Rattle.fields.specs.Parts.{all_below}
 use Rattle.fields.proofs.Tests.{said-no, said-yes}
 use Rattle.fields.proofs.Lists.{p-over, z-low, z-high, list-wrong, q-used, past-list}

@@ -1,6 +1,5 @@
 -- `fields::pair` meets its contract: at each answer the tests on the way say how `two_fields_of` goes.
 -- Assumes nothing.
-use borrow.Author.Rules.{rules}
 use borrow.Author.Tests.{le-ltb, lt-ltb, eq-eqb, ne_eqb}
 use Rattle.fields.proofs.Tests.{fails, holds, said-no, said-yes, is-over, is_below}
 use Rattle.fields.proofs.pair.Goals as goal

@@ -7,7 +7,6 @@ use borrow.Author.Tests.{ltb-true}
 use lib.ListN.{get_or}
 use mathlib.Core.List.{List}
 use Rattle.table.specs.Format.{kind_at, p_at, q_at, value_at}
-use borrow.Author.Rules.{rules}
 use Rattle.fields.proofs.plain.Goals as goal
 
 pub returns-then-kind-gt11 : goal.returns-then-kind-gt11

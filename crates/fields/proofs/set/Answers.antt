@@ -1,6 +1,5 @@
 -- `fields::set` meets its contract: at each answer the tests on the way say how `fields_of` goes at the form of a Set.
 -- Assumes nothing.
-use borrow.Author.Rules.{rules}
 use borrow.Author.Tests.{le-ltb, lt-ltb, eq-eqb, ne_eqb}
 use Rattle.fields.proofs.Tests.{fails, holds, last-fails, last-holds}
 use Rattle.fields.proofs.set.Goals as goal

@@ -1,0 +1,48 @@
+-- `mutex::leave` meets its contract: nothing changes, a byte falls by 8, or those behind move up.
+-- Assumes nothing.
+use native.Mathlib.Omega.{arith}
+use Rattle.mutex.proofs.Steps.{stays, lessens, leaves}
+use Rattle.mutex.proofs.leave.Goals as goal
+
+pub place-i-requires : goal.place-i-requires
+place-i-requires c =
+    (c.requires.0.long, omega (arith, c.requires.0.bounded c.args.m, c.wide-n.ensures.0))
+
+pub returns-then-n-i : goal.returns-then-n-i
+returns-then-n-i c =
+    let x = c.args in
+    let n = c.wide-n in
+    stays x.queues.now x.m x.a c.requires.0 c.requires.1 n.result n.ensures.0 c.place-i.result c.place-i.ensures
+    c.if-n-i.true
+
+pub bounds-queues-at : goal.bounds-queues-at
+bounds-queues-at c =
+    omega (arith, c.requires.0.bounded c.args.m, c.wide-n.ensures.0)
+
+pub bounds-queues-at-then-b-ge8 : goal.bounds-queues-at-then-b-ge8
+bounds-queues-at-then-b-ge8 c =
+    omega (arith, c.requires.0.bounded c.args.m, c.wide-n.ensures.0)
+
+pub returns-then-b-ge8 : goal.returns-then-b-ge8
+returns-then-b-ge8 c =
+    let x = c.args in
+    let n = c.wide-n in
+    let i = c.place-i in
+    lessens x.queues.now x.m x.a c.requires.0 c.requires.1 n.result n.ensures.0 i.result i.ensures
+    c.if-n-i.false
+    c.if-b-ge8.true
+
+pub move_up-requires : goal.move_up-requires
+move_up-requires c =
+    (c.requires.0.long, omega (arith, c.requires.0.bounded c.args.m, c.wide-n.ensures.0))
+
+pub returns : goal.returns
+returns c =
+    let x = c.args in
+    let n = c.wide-n in
+    let i = c.place-i in
+    leaves x.queues.now x.m x.a c.requires.0 c.requires.1 n.result n.ensures.0 i.result i.ensures
+    c.if-n-i.false
+    c.if-b-ge8.false
+    c.move_up.new.queues
+    c.move_up.ensures

@@ -1,0 +1,17 @@
+-- `text::decimal` meets its contract: a number needs no columns but its own. Assumes nothing.
+use mathlib.Core.Path.{subst, sym}
+use mathlib.Core.List.{List}
+use Prim.Native.Nat.{ℕ, ◌≤◌}
+use lib.ListN.{length}
+use Rattle.writing.specs.Written.{Wrote}
+use Rattle.text.proofs.Digits.{right-none}
+use Rattle.text.proofs.decimal.Goals as goal
+
+pub right-requires : goal.right-requires
+right-requires c =
+    subst (λ (l : List ℕ). length l ≤ length c.args.buf.now) (sym (right-none c.args.x)) c.requires
+
+pub returns : goal.returns
+returns c =
+    let w = c.right in
+    subst (λ (l : List ℕ). Wrote c.args.buf.now l w.new.buf w.result) (right-none c.args.x) w.ensures
