@@ -9,7 +9,7 @@ ghost use Rattle.answers.specs.Answers.{stop_of, refusal_of};
 use table::Reading;
 
 // Why a schedule stops before its end, with the entry's index: it names no actor, a finished one, one that waits, or one whose Add would run over.
-#[derive(Drop)]
+#[derive(Clone, Copy)]
 pub enum Stop {
     Absent(u32),
     Finished(u32),
@@ -58,7 +58,7 @@ impl Stop {
 
 // Why a call refuses: the table, a schedule, a step's name that is not in the table, a lent buffer that is too small, or, for a route, schedules that
 // differ.
-#[derive(Drop)]
+#[derive(Clone, Copy)]
 pub enum Refusal {
     Table(Reading),
     ReportRoom,

@@ -12,7 +12,7 @@ ghost use Rattle.look.specs.Parts.{seen_of, communications_seen, mutexes_seen};
 use state::NextStep;
 
 // Nothing; or the first place in the list, counted from 1, with the number listed there and the value of that communication (0 for a mutex).
-#[derive(Drop)]
+#[derive(Clone, Copy)]
 pub enum Seen {
     Unseen,
     At {

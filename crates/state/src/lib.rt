@@ -8,7 +8,7 @@ ghost use Rattle.model.specs.Step.{taken, over};
 ghost use Rattle.state.specs.State.{fresh_actor, step_as};
 
 // An actor's record: its eight cells, and the number of its next action.
-#[derive(Drop)]
+#[derive(Clone, Copy)]
 pub struct Actor {
     pub cells: [u32; 8],
     pub position: usize,

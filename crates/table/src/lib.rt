@@ -37,7 +37,7 @@ pub enum Action {
 }
 
 // What the reader finds: the table is accepted, or the first thing that is wrong, with the offset of the action that it is in.
-#[derive(Drop)]
+#[derive(Clone, Copy)]
 pub enum Reading {
     Valid,
     Short,

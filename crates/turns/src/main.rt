@@ -5,7 +5,9 @@
 ghost use Rattle.std.specs.Prelude.{◌≡◌, List, ℕ, ◌≤◌, length, take};
 ghost use Rattle.model.specs.Listing.{listing_of};
 
-use libc::{ENOENT, STDOUT_FILENO};
+use std::fs::File;
+use std::io;
+use std::io::{ErrorKind, Read, Write};
 
 // How many bytes of a file came, and whether reading it failed.
 #[derive(Drop)]
@@ -15,11 +17,11 @@ struct Came {
 }
 
 // No more of a file is read than decides its listing.
-fn main() {
+fn main(rt: HostRuntime) {
     let mut table = [0u8; 2085];
     let mut schedule = [0u8; 257];
-    let site = fetch(b"site.tab", &mut table);
-    let order = fetch(b"order.sch", &mut schedule);
+    let site = fetch(&rt, "site.tab", &mut table);
+    let order = fetch(&rt, "order.sch", &mut schedule);
     if site.failed {
         return;
     }
@@ -28,55 +30,52 @@ fn main() {
     }
     let n = site.count;
     let m = order.count;
-    print(&table[..n], &schedule[..m]);
+    print(&rt, &table[..n], &schedule[..m]);
 }
 
-fn print(table: &[u8], schedule: &[u8]) {
+fn print(rt: &HostRuntime, table: &[u8], schedule: &[u8]) {
     let laid = listing::lay(table, schedule);
     let bytes = laid.bytes;
     let n = laid.length;
-    emit(&bytes[..n], table, schedule);
+    emit(rt, &bytes[..n], table, schedule);
 }
 
 // The only bytes that go to standard output: the listing of the bytes that were read, and of any two files that begin with them, cut where the
 // buffers end.
-fn emit(text: &[u8], table: &[u8], schedule: &[u8])
+fn emit(rt: &HostRuntime, text: &[u8], table: &[u8], schedule: &[u8])
     requires text_value { text.now ≡ listing_of table.now schedule.now }
     requires by_index { (file order : List ℕ) → take 2085 file ≡ table.now → take 257 order ≡ schedule.now → text.now ≡ listing_of file order }
 {
-    let is_written = io::write_all(STDOUT_FILENO, text);
-    if !is_written {
-        os::fail(b"standard output");
+    let mut out = rt.stdout();
+    if let Err(error) = out.write_all(text) {
+        fail(rt, "standard output", &error);
     }
 }
 
 // The beginning of a file, as much as the buffer holds.
-fn fetch(path: &[u8], buf: &mut [u8]) -> Came
+fn fetch(rt: &HostRuntime, path: &str, buf: &mut [u8]) -> Came
     ensures { result.count ≤ length buf.new }
 {
-    let fd = os::open_read(path);
-    if fd < 0 {
-        return unopened(path);
+    match File::open(rt, path) {
+        Ok(file) => {
+            let mut file = file;
+            fill(rt, path, &mut file, buf)
+        }
+        Err(error) => unopened(rt, path, &error),
     }
-    let came = fill(fd, buf);
-    if came.failed {
-        os::fail(path);
-    }
-    libc::close(fd);
-    came
 }
 
 // An absent file reads as empty.
-fn unopened(path: &[u8]) -> Came
+fn unopened(rt: &HostRuntime, path: &str, error: &io::Error) -> Came
     ensures { result.count ≡ 0 }
 {
-    if os::errno() == ENOENT {
+    if error.kind() == ErrorKind::NotFound {
         return Came {
             count: 0,
             failed: false,
         };
     }
-    os::fail(path);
+    fail(rt, path, error);
     Came {
         count: 0,
         failed: true,
@@ -84,12 +83,12 @@ fn unopened(path: &[u8]) -> Came
 }
 
 // Reads until the buffer is full, the file ends or a read fails.
-fn fill(fd: i32, buf: &mut [u8]) -> Came
+fn fill(rt: &HostRuntime, path: &str, file: &mut File, buf: &mut [u8]) -> Came
     ensures { result.count ≤ length buf.new }
 {
     let mut at = 0;
     while at < buf.len() {
-        let more = read_once(fd, &mut buf[at..]);
+        let more = read_once(rt, path, file, &mut buf[at..]);
         let n = more.count;
         if more.failed {
             return Came {
@@ -111,18 +110,33 @@ fn fill(fd: i32, buf: &mut [u8]) -> Came
     }
 }
 
-fn read_once(fd: i32, part: &mut [u8]) -> Came
+fn read_once(rt: &HostRuntime, path: &str, file: &mut File, part: &mut [u8]) -> Came
     ensures { result.count ≤ length part.new }
 {
-    let got = libc::read(fd, part);
-    if got < 0 {
-        return Came {
-            count: 0,
-            failed: true,
-        };
+    match file.read(part) {
+        Ok(count) => Came {
+            count,
+            failed: false,
+        },
+        Err(error) => {
+            fail(rt, path, &error);
+            Came {
+                count: 0,
+                failed: true,
+            }
+        }
     }
-    Came {
-        count: io::count(got, part),
-        failed: false,
+}
+
+// Says on standard error why something could not be read or written, in the system's words; where that can't be said, nothing.
+fn fail(rt: &HostRuntime, what: &str, error: &io::Error) {
+    let _ = say(rt, what, error);
+}
+
+fn say(rt: &HostRuntime, what: &str, error: &io::Error) -> io::Result<()> {
+    let words = format!(in rt.alloc(); "{error}")?;
+    match words.as_str().split_once(" (os error ") {
+        Some((text, _)) => eprintln!(rt; "{what}: {text}"),
+        None => eprintln!(rt; "{what}: {error}"),
     }
 }
