@@ -5,12 +5,12 @@
 
 # The file that an import names, or the type, as `crate: Name`; "" where there is none.
 function target(path, place,    crate, rest, part, n, k, file) {
-    gsub(/·specs/, "", path); sub(/^Rattle·/, "", path); sub(/\.+$/, "", path)
+    sub(/^Rattle\./, "", path); sub(/\.+$/, "", path)
     crate = path; sub(/\..*/, "", crate)
     rest = substr(path, length(crate) + 2)
     if (rest ~ /^proofs(\.|$)/) { fault("what is promised may name nothing of proofs/: " place); return "" }
     if (sub(/^specs\.declared\./, "", rest)) {
-        sub(/\.the-variants$/, "", rest); sub(/.*\./, "", rest)
+        sub(/\.TheVariants$/, "", rest); sub(/.*\./, "", rest)
         return crate ": " rest
     }
     if (sub(/^specs\./, "", rest))

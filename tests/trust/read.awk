@@ -15,15 +15,15 @@ function crate_of(file) { sub(/^crates\//, "", file); sub(/\/.*/, "", file); ret
 
 function depth_of(text) { match(text, /^[ \t]*/); return RLENGTH }
 
-function is_library(path) { return path ~ /^(Prim|mathlib|lib|borrow|native|denote\.Ref)\./ }
+function is_library(path) { return path ~ /^(Rattle\.std|Prim|mathlib|lib|borrow|native)\./ }
 
 function words(text) { gsub(/[^A-Za-z0-9'_-]/, " ", text); return " " text " " }
 
 # Whether a text has a name; of an operator, one of its parts.
 function mentions(text, name,    part, n, k) {
     if (name == "*") return 1
-    if (name !~ /[^A-Za-z0-9'_-]/ && index(words(text), " " name " ")) return 1
-    n = split(name, part, "_")
+    if (name !~ /[^A-Za-z0-9'_-]/) return index(words(text), " " name " ") > 0
+    n = split(name, part, "◌")
     if (n < 2) return name ~ /[^A-Za-z0-9'_-]/ && index(text, name)
     for (k = 1; k <= n; k++) if (part[k] != "" && mentions(text, part[k])) return 1
     return 0
@@ -45,12 +45,28 @@ function bind_all(text,    path, list, names, n, k, place) {
     list = substr(text, length(path) + 1); sub(/^[ \t]*\{/, "", list); sub(/\}.*/, "", list)
     sub(/\.$/, "", path)
     if (is_library(path)) return
-    if (path !~ /^Rattle·/) { file_fault("an import of unknown origin: " place); return }
+    if (path !~ /^Rattle\./) { file_fault("an import of unknown origin: " place); return }
     n = split(list ~ /[^ \t]/ ? list : "*", names, ",")
     for (k = 1; k <= n; k++) {
         sub(/.*[ \t]as[ \t]/, "", names[k]); gsub(/[ \t]/, "", names[k])
         if (names[k] != "") bind(names[k], path, place)
     }
+}
+
+# `use path::Name;`, `use path::{A, b};` or `use path;`: the types among the names are bound, functions and modules are not.
+function take_all(text, place,    crate, list, names, n, k) {
+    sub(/^[ \t]*/, "", text); gsub(/[ \t]+/, " ", text)
+    if (text !~ /^use [A-Za-z0-9_:]+;/ && text !~ /^use [a-z0-9_:]+::\{ ?[A-Za-z0-9_]+(, ?[A-Za-z0-9_]+)*,? ?\};/) {
+        file_fault("an import that is not followed: " place)
+        return
+    }
+    sub(/^use /, "", text); sub(/;.*/, "", text)
+    crate = text; sub(/::.*/, "", crate)
+    if (crate == "std") return
+    list = text; sub(/.*::/, "", list); gsub(/[{} ]/, "", list)
+    n = split(list, names, ",")
+    for (k = 1; k <= n; k++)
+        if (names[k] ~ /^[A-Z]/) bind(names[k], "Rattle." (crate == "crate" ? crate_of(FILENAME) : crate) ".specs.declared." names[k], place)
 }
 
 # ---- definitions of a call
@@ -91,9 +107,10 @@ FILENAME ~ /\.antt$/ {
     stated[FILENAME, FNR] = $0
     if (/^[ \t]*(pub[ \t]+)?use[ \t]/) {
         path = $0; sub(/^.*use[ \t]+/, "", path)
-        if (path !~ /^Rattle·/ && !is_library(path)) fault("an import of unknown origin: " place)
+        if (path !~ /^Rattle\./ && !is_library(path)) fault("an import of unknown origin: " place)
     }
-    for (rest = $0; match(rest, /Rattle·[^ \t;(){},]*/); rest = substr(rest, RSTART + RLENGTH)) {
+    for (rest = $0; match(rest, /Rattle\.[^ \t;(){},]*/); rest = substr(rest, RSTART + RLENGTH)) {
+        if (is_library(substr(rest, RSTART, RLENGTH) ".")) continue
         imports++
         import_from[imports] = FILENAME; import_path[imports] = substr(rest, RSTART, RLENGTH); import_at[imports] = place
     }
@@ -111,8 +128,8 @@ FILENAME ~ /\.antt$/ {
 
 FNR == 1 {
     if (inside) call_fault("a contract without an end: " call[calls])
-    if (pending != "") fault("an import without an end: " pending)
-    inside = 0; impl = ""; pending = ""
+    if (pending taking != "") fault("an import without an end: " pending taking)
+    inside = 0; impl = ""; pending = ""; taking = ""
 }
 { place = place_of($0); sub(/^[ \t]*\/\/.*/, ""); sub(/[ \t]\/\/.*/, "") }
 /\/\*/ { file_fault("a comment that is not read: " place) }
@@ -121,13 +138,11 @@ FNR == 1 {
     if (pending ~ /;/) { bind_all(pending); pending = "" }
     next
 }
-/^use [A-Za-z0-9_:]*::[A-Z][A-Za-z0-9_]*;/ {
-    name = $2; sub(/;.*/, "", name); sub(/.*::/, "", name)
-    crate = $2; sub(/::.*/, "", crate)
-    bind(name, "Rattle·" (crate == "crate" ? crate_of(FILENAME) : crate) ".specs.declared." name, place)
+/^[ \t]*use / || taking != "" {
+    taking = taking == "" ? $0 : taking " " $0
+    if (taking ~ /;/) { take_all(taking, place); taking = "" }
     next
 }
-/^[ \t]*use / && !/^use [a-z0-9_:]+;/ { file_fault("an import that is not followed: " place) }
 /^[ \t]*pub use / {
     passes++
     pass_name[passes] = $3; sub(/;.*/, "", pass_name[passes])
@@ -159,7 +174,7 @@ inside {
     if (/^[ \t]*requires/) asks[calls] = 1
     if (/^[ \t]*ensures/) promises[calls] = 1
     if (/⟦|⟧/ || index(words($0), " ghost ")) call_fault("a public contract has a bracket or a ghost value: " place)
-    else if (/::/ || (contract && /[^ \t(){}.;,@"]\.[^ \t]/)) call_fault("a public contract names something by a path: " place)
+    else if (/::/ || (contract && /[A-Z][A-Za-z0-9_']*\.[A-Za-z]/)) call_fault("a public contract names something by a path: " place)
     if (/\{-/) call_fault("a comment that is not read: " place)
     call_text[calls] = call_text[calls] " " $0
     if (contract) { sub(/[ \t]--.*/, ""); contract_text[calls] = contract_text[calls] " " $0 }
@@ -168,6 +183,6 @@ inside {
 
 END {
     if (inside) call_fault("a contract without an end: " call[calls])
-    if (pending != "") fault("an import without an end: " pending)
+    if (pending taking != "") fault("an import without an end: " pending taking)
     if (signed != "") signature()
 }
