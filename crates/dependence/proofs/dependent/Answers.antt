@@ -1,0 +1,66 @@
+-- `dependence::dependent` meets its contract: the law of the codes, from what was looked up.
+-- Assumes nothing.
+use mathlib.Core.Path.{sym, ◌∙◌}
+use native.Mathlib.Omega.{arith}
+use Rattle.model.specs.Site.{name}
+use Rattle.model.proofs.PairCases.{depends-own, depends-symmetric}
+use Rattle.actions.proofs.ByKind.{by_kind}
+use Rattle.dependence.proofs.CodeLaw.{looked-up}
+use Rattle.dependence.proofs.CodeRanges.{own-listed}
+use Rattle.dependence.proofs.dependent.Goals as goal
+
+pub returns-then-a-b : goal.returns-then-a-b
+returns-then-a-b c =
+    let x = c.args in
+    sym (depends-own x.table.now (name x.a x.k) (name x.b x.l) c.if-a-b.true)
+
+pub action-x-requires : goal.action-x-requires
+action-x-requires c = let p = c.requires in (p.0, p.1.0, p.1.1)
+
+pub action-y-requires : goal.action-y-requires
+action-y-requires c = let p = c.requires in (p.0, p.2.0, p.2.1)
+
+pub code-code-requires : goal.code-code-requires
+code-code-requires c = (
+  omega (arith, c.kind-i.ensures, (by_kind c.action-x.result).kind-most),
+  omega (arith, c.kind-j.ensures, (by_kind c.action-y.result).kind-most),
+)
+
+pub compare-requires : goal.compare-requires
+compare-requires c =
+    let x = c.args in
+    let p = c.requires in (
+      p.0,
+      own-listed x.table.now p.0 (name x.b x.l) p.2 c.action-y.ensures c.kind-j.ensures
+          (omega (arith, c.kind-i.ensures, (by_kind c.action-x.result).kind-most)) c.code-code.ensures.1,
+    )
+
+pub returns-then-i-j : goal.returns-then-i-j
+returns-then-i-j c =
+    let x = c.args in
+    looked-up x.table.now x.b x.l x.a x.k
+    c.action-y.result c.action-x.result
+    c.kind-j.result c.kind-i.result c.code-code.result
+    c.action-y.ensures c.action-x.ensures
+    c.kind-j.ensures c.kind-i.ensures c.code-code.ensures.1
+    (λ e. c.if-a-b.false (sym e)) (omega (arith, c.if-i-j.true)) c.compare.result c.compare.ensures
+    ∙ depends-symmetric x.table.now (name x.b x.l) (name x.a x.k)
+
+pub compare-requires-2 : goal.compare-requires-2
+compare-requires-2 c =
+    let x = c.args in
+    let p = c.requires in (
+      p.0,
+      own-listed x.table.now p.0 (name x.a x.k) p.1 c.action-x.ensures c.kind-i.ensures
+          (omega (arith, c.kind-j.ensures, (by_kind c.action-y.result).kind-most)) c.code-code.ensures.0,
+    )
+
+pub returns : goal.returns
+returns c =
+    let x = c.args in
+    looked-up x.table.now x.a x.k x.b x.l
+    c.action-x.result c.action-y.result
+    c.kind-i.result c.kind-j.result c.code-code.result
+    c.action-x.ensures c.action-y.ensures
+    c.kind-i.ensures c.kind-j.ensures c.code-code.ensures.0
+    c.if-a-b.false c.if-i-j.false c.compare-2.result c.compare-2.ensures
