@@ -8,8 +8,8 @@ ghost use Rattle.actions.specs.Fields.{kind_of, target_of, list_of};
 use table::{Action, Numbers};
 
 // The number of an action's kind.
-pub fn kind(x: &Action) -> usize
-    ensures { result ≡ kind_of x.now }
+pub fn kind(x: Action) -> usize
+    ensures { result ≡ kind_of x }
 {
     match x {
         Action::Set { cell: _, value: _ } => 0,

@@ -108,14 +108,14 @@ impl Refusal {
 }
 
 // The answer of a call that writes into a lent buffer, run, page, draw or route: the length of what was written.
-#[derive(Drop)]
+#[derive(Clone, Copy)]
 pub enum LengthAnswer {
     Length(u32),
     Refused(Refusal),
 }
 
 // Whether every actor is finished, nobody is ready although not, or the site is going.
-#[derive(Drop)]
+#[derive(Clone, Copy)]
 pub enum Ending {
     Finished,
     Stuck,
@@ -123,7 +123,7 @@ pub enum Ending {
 }
 
 // Which actors are ready, a bit each, how many are, and the ending.
-#[derive(Drop)]
+#[derive(Clone, Copy)]
 pub struct Readiness {
     pub mask: u32,
     pub count: u32,
@@ -131,14 +131,14 @@ pub struct Readiness {
 }
 
 // The answer of ready.
-#[derive(Drop)]
+#[derive(Clone, Copy)]
 pub enum ReadyAnswer {
     Now(Readiness),
     Refused(Refusal),
 }
 
 // The answer of pair: whether the two steps are dependent.
-#[derive(Drop)]
+#[derive(Clone, Copy)]
 pub enum PairAnswer {
     Independent,
     Dependent,
@@ -147,7 +147,7 @@ pub enum PairAnswer {
 
 // The answer of same and prefix: whether a chain of exchanges turns the first schedule, or its part, into the second; and how many pairs of steps were
 // compared.
-#[derive(Drop)]
+#[derive(Clone, Copy)]
 pub enum SameAnswer {
     Same(u32),
     Different(u32),
@@ -155,14 +155,14 @@ pub enum SameAnswer {
 }
 
 // One of two recordings.
-#[derive(Drop)]
+#[derive(Clone, Copy)]
 pub enum Recording {
     First,
     Second,
 }
 
 // A part of one of two recordings: from which entry on, and how many entries.
-#[derive(Drop)]
+#[derive(Clone, Copy)]
 pub struct Part {
     pub recording: Recording,
     pub from: usize,

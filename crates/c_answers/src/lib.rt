@@ -15,7 +15,7 @@ use table::Reading;
 
 // The refusal's number and position; 0 and 0 where the table is accepted.
 #[repr(C)]
-#[derive(Drop)]
+#[derive(Clone, Copy)]
 pub struct OrderCheck {
     pub refusal: u32,
     pub position: u32,
@@ -32,7 +32,7 @@ pub fn check(reading: Reading) -> OrderCheck
 
 // The refusal, or the length of what was written.
 #[repr(C)]
-#[derive(Drop)]
+#[derive(Clone, Copy)]
 pub struct OrderLength {
     pub refusal: u32,
     pub position: u32,
@@ -58,7 +58,7 @@ pub fn length(answer: LengthAnswer) -> OrderLength
 
 // The refusal, or the ready answer.
 #[repr(C)]
-#[derive(Drop)]
+#[derive(Clone, Copy)]
 pub struct OrderReady {
     pub refusal: u32,
     pub position: u32,
@@ -107,7 +107,7 @@ fn number_of(ending: Ending) -> u32
 
 // The refusal, or the verdict on two steps: 0 independent, 1 dependent.
 #[repr(C)]
-#[derive(Drop)]
+#[derive(Clone, Copy)]
 pub struct OrderPair {
     pub refusal: u32,
     pub position: u32,
@@ -138,7 +138,7 @@ pub fn pair(answer: PairAnswer) -> OrderPair
 
 // The refusal, or the verdict on two schedules, 0 different, 1 same, and the number of pairs compared.
 #[repr(C)]
-#[derive(Drop)]
+#[derive(Clone, Copy)]
 pub struct OrderSame {
     pub refusal: u32,
     pub position: u32,
@@ -173,7 +173,7 @@ pub fn same(answer: SameAnswer) -> OrderSame
 
 // Of which recording the remainder is, 1 the first and 2 the second, from which entry on and how many entries.
 #[repr(C)]
-#[derive(Drop)]
+#[derive(Clone, Copy)]
 pub struct OrderRemainder {
     pub recording: u32,
     pub from: usize,

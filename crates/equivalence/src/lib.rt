@@ -11,7 +11,7 @@ ghost use Rattle.equivalence.specs.Parts.{Indexed, Located, Placed, crosses, sea
 use table::bytes;
 
 // A verdict on two lists of step names, and how many pairs of steps were compared.
-#[derive(Drop)]
+#[derive(Clone, Copy)]
 pub struct Comparison {
     pub same: bool,
     pub pairs: u32,

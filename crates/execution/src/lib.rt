@@ -11,14 +11,14 @@ use state::Actor;
 use table::Reading;
 
 // How far an execution comes: to the schedule's end, or to what is refused.
-#[derive(Drop)]
+#[derive(Clone, Copy)]
 pub enum Course {
     End,
     Refused(Refusal),
 }
 
 // How far it came, and the actors' records there.
-#[derive(Drop)]
+#[derive(Clone, Copy)]
 pub struct Execution {
     pub course: Course,
     pub actors: [Actor; 8],

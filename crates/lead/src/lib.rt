@@ -14,7 +14,7 @@ use state::Actor;
 use table::{Action, bytes};
 
 // What is due: the schedule's end, or a turn.
-#[derive(Drop)]
+#[derive(Clone, Copy)]
 pub enum Due {
     End,
     Turn(Turn),

@@ -9,7 +9,7 @@ ghost use Rattle.listing.specs.Laid.{Laid};
 use execution::Course;
 
 // A listing: the first `length` of the bytes. No listing is longer: 256 steps take at most 5 bytes each, the ending at most 13.
-#[derive(Drop)]
+#[derive(Clone, Copy)]
 pub struct Listing {
     pub bytes: [u8; 1293],
     pub length: usize,

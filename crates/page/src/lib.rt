@@ -14,7 +14,7 @@ use state::{Actor, NextStep};
 use table::access;
 
 // How an actor stands.
-#[derive(Drop)]
+#[derive(Clone, Copy)]
 pub enum Status {
     Ready,
     Waits,

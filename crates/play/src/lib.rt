@@ -9,14 +9,14 @@ use policy::Policy;
 use state::{Actor, NextStep};
 
 // Where a schedule halts: at its end, or at an entry that is refused.
-#[derive(Drop)]
+#[derive(Clone, Copy)]
 pub enum Halt {
     End,
     At(Stop),
 }
 
 // Where a schedule halted, after how many steps, and the actors' records there.
-#[derive(Drop)]
+#[derive(Clone, Copy)]
 pub struct Played {
     pub halt: Halt,
     pub steps: usize,

@@ -7,13 +7,13 @@ ghost use Rattle.model.specs.Draw.{draw as model_draw, ranked as model_ranked, d
 ghost use Rattle.policy.specs.Parts.{rule_of, kept_of, TurnRight};
 
 // A way to choose, with what it keeps from turn to turn: the draw keeps its x.
-#[derive(Drop)]
+#[derive(Clone, Copy)]
 pub struct Policy {
     x: u32,
 }
 
 // A turn: the actor that is stepped, and the policy after it.
-#[derive(Drop)]
+#[derive(Clone, Copy)]
 pub struct Turn {
     pub actor: usize,
     pub policy: Policy,

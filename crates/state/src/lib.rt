@@ -94,7 +94,7 @@ impl Actor {
 }
 
 // What an actor's next step is: it is taken, it waits for what it looks at, or it is an Add that would run over.
-#[derive(Drop)]
+#[derive(Clone, Copy)]
 pub enum NextStep {
     Taken,
     Waits,

@@ -15,7 +15,7 @@ use state::{Actor, NextStep};
 use table::Action;
 
 // What an actor's next step was, and its record after it where it was taken.
-#[derive(Drop)]
+#[derive(Clone, Copy)]
 pub struct Stepped {
     pub next: NextStep,
     pub actor: Actor,

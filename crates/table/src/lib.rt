@@ -10,7 +10,7 @@ pub mod bytes;
 pub mod within;
 
 // The numbers that a list names: the first `count` of the four.
-#[derive(Drop)]
+#[derive(Clone, Copy)]
 pub struct Numbers {
     pub count: usize,
     pub n0: usize,
@@ -20,7 +20,7 @@ pub struct Numbers {
 }
 
 // An action, decoded.
-#[derive(Drop)]
+#[derive(Clone, Copy)]
 pub enum Action {
     Set { cell: usize, value: u32 },
     Add { cell: usize, other: usize },

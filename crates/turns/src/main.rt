@@ -10,7 +10,7 @@ use std::io;
 use std::io::{ErrorKind, Read, Write};
 
 // How many bytes of a file came, and whether reading it failed.
-#[derive(Drop)]
+#[derive(Clone, Copy)]
 struct Came {
     count: usize,
     failed: bool,
