@@ -1,0 +1,10 @@
+-- `footprint::release` meets its contract.
+-- Assumes nothing.
+use mathlib.Core.Path.{refl, ap}
+use lib.ListN.{set}
+use Rattle.footprint.proofs.release.Goals as goal
+
+pub returns : goal.returns
+returns c =
+    let x = c.args in
+    (refl, ap (set x.posts.now x.r) c.later.ensures)
