@@ -40,8 +40,8 @@ else
 	@cd "$(SITE)" && "$(TURNS)"
 endif
 
-# Stage by stage, and none after one that fails. `rt ci` comes before all that is built: it removes target/, and the rest is built from what it
-# proves anew. The library is then built once, and the stages after that need no LIB.
+# Stage by stage, and none after one that fails. `rt ci` comes before all that is built. The library is then built once, and the stages after that
+# need no LIB.
 test: toolchain
 	@mkdir -p $(GATE) && : > $(GATE)/times && date +%s > $(GATE)/began
 	@$(STAGE) 'documents' $(MAKE) docs
@@ -88,18 +88,20 @@ cli: $(LIB)
 # The proved calls, as target/staticlib/liborder_ffi.a, and the listing program, as target/bin/turns; what the prover says is shown where it refuses. Each
 # function of the library is told to begin at a multiple of 64 bytes, wherever it is linked (docs/DECISIONS.md, C17).
 lib:
-	@mkdir -p target
+	@mkdir -p $(dir $(ARCHIVE))
 	@[ -f $(ARCHIVE) ] || echo 'proving and building the library: some minutes the first time' >&2
-	@rt staticlib order_ffi > target/lib.log 2>&1 || { cat target/lib.log; exit 1; }
-	@objcopy --preserve-dates --set-section-alignment '.text.*=64' $(ARCHIVE)
+	@(cd crates/order_ffi && rt lib) > target/lib.log 2>&1 || { cat target/lib.log; exit 1; }
+	@cmp -s crates/order_ffi/out/liborder_ffi.a target/lib.made || { cp crates/order_ffi/out/liborder_ffi.a target/lib.made && \
+	    objcopy --set-section-alignment '.text.*=64' target/lib.made $(ARCHIVE); }
 
 program:
-	@mkdir -p target
+	@mkdir -p $(dir $(TURNS))
 	@[ -x "$(TURNS)" ] || echo 'proving and building the listing program: some minutes the first time' >&2
-	@rt check turns > target/turns.log 2>&1 || { cat target/turns.log; exit 1; }
+	@(cd crates/turns && rt run) > target/turns.log 2>&1 || { cat target/turns.log; exit 1; }
+	@cmp -s crates/turns/out/turns "$(TURNS)" || cp crates/turns/out/turns "$(TURNS)"
 
+# The layout of .rt and .antt files is looked at by `rt ci`.
 layout:
-	rt fmt --check
 	$(CARGO) fmt --all --check
 
 rust: $(LIB)
@@ -131,7 +133,7 @@ order-test: cli
 proofs:
 	$(PROOFS)
 
-# Why each must-fail edit was refused, by the logs of the last `rt ci` or `rt must-fail`.
+# Why each must-fail edit was refused, by what the gate's proofs said last.
 edits:
 	tests/gate/edits --self-test
 	tests/gate/edits

@@ -1,5 +1,5 @@
 //! Tells the linker where the proved engine's archive lies: in the folder that `ORDER_LIB_DIR`
-//! names, otherwise where `rt staticlib order_ffi` puts it.
+//! names, otherwise where `make lib` puts it.
 
 use std::env;
 use std::path::{Path, PathBuf};
