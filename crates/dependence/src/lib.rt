@@ -42,8 +42,8 @@ pub fn dependent(table: &[u8], a: usize, k: usize, b: usize, l: usize) -> bool
     }
     let x = within::action(table, a, k);
     let y = within::action(table, b, l);
-    let i = actions::kind(&x);
-    let j = actions::kind(&y);
+    let i = actions::kind(x);
+    let j = actions::kind(y);
     let code = code(i, j);
     if i < j {
         return compare(code, table, b, y, x);
@@ -109,7 +109,7 @@ fn mail_at(
         return false;
     }
     let x = within::action(table, a, k);
-    if actions::kind(&x) != wanted {
+    if actions::kind(x) != wanted {
         return false;
     }
     actions::target(x) == m
