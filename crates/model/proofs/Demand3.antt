@@ -11,7 +11,7 @@ use borrow.Author.Tests.{not-true}
 use Rattle.table.specs.Outcome.{accepted, demand, ◌⨾◌}
 use Rattle.table.specs.Read.{read_of}
 use Rattle.trace.specs.Machine.{Name}
-use Rattle.trace.specs.Schedule.{accepted as taken, names}
+use Rattle.trace.specs.Schedule.{names}
 use Rattle.trace.specs.Chain.{independent_at, Exchange, Chain, Chained, replay}
 use Rattle.trace.specs.Same.{equivalent}
 use Rattle.trace.specs.Search.{pairs_compared}

@@ -12,7 +12,7 @@ use borrow.Author.Tests.{eqb-true, eqb-false}
 use Rattle.trace.specs.Machine.{Name}
 use Rattle.trace.specs.Order.{mem}
 use Rattle.trace.proofs.Bools.{which}
-use Rattle.trace.proofs.Names.{mem-head, mem-here, mem-tail, mem-cases}
+use Rattle.trace.proofs.Names.{mem-here, mem-tail, mem-cases}
 use Rattle.model.specs.Site.{Actor, Port, opposite, eq_port, Mail, Site, initial}
 use Rattle.model.specs.Views.{Post, silent, mails, joins, leaves, notes, posts}
 use Rattle.model.specs.Mail.{meet_with, mailing}

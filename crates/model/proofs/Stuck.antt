@@ -4,7 +4,7 @@ use Prim.Native.Nat.{ℕ, zero, suc, ◌+◌, ◌≤◌, ◌<◌}
 use native.Mathlib.Omega.{arith}
 use mathlib.Core.Path.{◌≡◌, refl, sym, ◌∙◌, ap}
 use mathlib.Core.Logic.{◌⊎◌, inl, inr}
-use mathlib.Core.Bool.{Bool, true, false, not, ◌&&◌}
+use mathlib.Core.Bool.{Bool, true, false, not}
 use mathlib.Core.List.{List}
 use lib.Dec.{eqb, ltb}
 use borrow.Author.Tests.{ltb-true, eqb-true, eqb-false}
@@ -12,7 +12,7 @@ use Rattle.table.specs.Format.{actors_of}
 use Rattle.trace.proofs.Bools.{which}
 use Rattle.model.specs.Site.{Site}
 use Rattle.model.specs.Step.{unfinished, ready}
-use Rattle.model.specs.Ready.{mask_of, all, stuck, ending_of, ReadyAnswer, ready_mask, ready_count, ready_answer}
+use Rattle.model.specs.Ready.{mask_of, all, stuck, ending_of, ready_mask, ready_count, ready_answer}
 use Rattle.model.proofs.Scheduled.{nobody-counts}
 
 none-masked : (f : ℕ → Bool) (n k : ℕ) → ((j : ℕ) → f j ≡ false) → mask_of f n k ≡ 0

@@ -8,7 +8,7 @@ use Rattle.trace.specs.Machine.{Name}
 use Rattle.trace.specs.Order.{eq_name, mem, before, Distinct}
 use Rattle.trace.specs.Route.{remove}
 use Rattle.trace.proofs.Bools.{which, contrary, is_false}
-use Rattle.trace.proofs.Names.{eq_name-true, mem-head, mem-here, mem-tail, mem-cases, before-cases, before-tail, before_head}
+use Rattle.trace.proofs.Names.{eq_name-true, mem-here, mem-tail, mem-cases, before-cases, before-tail, before_head}
 
 -- what else the list holds is left
 pub mem-remove : (x y : Name) (u : List Name) → x ≢ y → mem x u ≡ true → mem x (remove y u) ≡ true

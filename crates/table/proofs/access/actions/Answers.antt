@@ -4,7 +4,6 @@ use mathlib.Core.Path.{sym}
 use Prim.Native.Nat.{◌+◌, ◌*◌}
 use native.Mathlib.Omega.{arith}
 use Rattle.table.proofs.Decoded.{word-past}
-use borrow.Author.Rules.{rules}
 use Rattle.table.proofs.access.actions.Goals as goal
 
 pub returns-then-table-actor : goal.returns-then-table-actor

@@ -2,7 +2,6 @@
 -- Assumes nothing.
 use mathlib.Core.Path.{◌∙◌, ap}
 use Rattle.table.specs.Decode.{decode}
-use borrow.Author.Rules.{rules}
 use Rattle.table.proofs.within.action.Goals as goal
 
 pub returns : goal.returns

@@ -6,7 +6,6 @@ use native.Mathlib.Omega.{arith}
 use Rattle.table.specs.declared.Action.TheVariants.{Set, Add, Lesser, Send, Receive, TestAny, WaitAny, Lock, Unlock, MutexTest, MutexWait, Note}
 use Rattle.table.specs.Decode.{decode_as}
 use Rattle.table.proofs.Decoded.{of-kind, last-kind}
-use borrow.Author.Rules.{rules}
 use Rattle.table.proofs.within.decode.Goals as goal
 
 next : {n x : ℕ} → n ≤ x → (x ≡ n → ⊥) → suc n ≤ x

@@ -2,7 +2,6 @@
 -- Assumes nothing.
 use mathlib.Core.Path.{◌∙◌, ap}
 use Rattle.table.specs.Format.{kind_at}
-use borrow.Author.Rules.{rules}
 use Rattle.table.proofs.within.kind.Goals as goal
 
 pub returns : goal.returns

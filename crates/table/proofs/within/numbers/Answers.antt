@@ -1,7 +1,6 @@
 -- `table::within::numbers` meets its contract: the five bytes are those of the list.
 -- Assumes nothing.
 use Rattle.table.proofs.Decoded.{numbers_of}
-use borrow.Author.Rules.{rules}
 use Rattle.table.proofs.within.numbers.Goals as goal
 
 pub returns : goal.returns

@@ -7,7 +7,6 @@ use native.Mathlib.Omega.{arith}
 use lib.ListN.{length}
 use Rattle.table.specs.Format.{actors_of, offset_of, count_of, place_of}
 use Rattle.table.specs.Promise.{WellFormed}
-use borrow.Author.Rules.{rules}
 use Rattle.table.proofs.within.place.Goals as goal
 
 -- the last of the eight bytes lies within the file
