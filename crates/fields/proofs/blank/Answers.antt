@@ -9,6 +9,6 @@ use Rattle.fields.proofs.blank.Goals as goal
 
 pub returns : goal.returns
 returns c =
-    let a = c.before.before.args in
-    ap₂ (λ (v limit : ℕ). demand (ltb v limit) 9 a.at) c.value_at.ensures (shifted a.from c.before.before.requires.1)
-    ∙ blank-size a.t.now a.at (λ i. (c.before.shared_slice_known-1.given i).fits) a.from c.before.before.requires.1
+    let a = c.args in
+    ap₂ (λ (v limit : ℕ). demand (ltb v limit) 9 a.at) c.value_at.ensures (shifted a.from c.requires.1)
+    ∙ blank-size a.t.now a.at (λ i. (c.shared_slice_known-1.given i).fits) a.from c.requires.1

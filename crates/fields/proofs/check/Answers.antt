@@ -10,8 +10,8 @@ use Rattle.fields.proofs.check.Goals as goal
 
 pub returns-then-plain : goal.returns-then-plain
 returns-then-plain c =
-    let a = c.before.before.before.args in
+    let a = c.args in
     sym
     (plainly a.t.now a.first a.k
-    (subst (λ (limits : List ℕ). Plain a.t.now (place_of a.first a.k) limits) c.before.before.before.requires.3
-    (c.before.plain.ensures c.if-plain.true)))
+    (subst (λ (limits : List ℕ). Plain a.t.now (place_of a.first a.k) limits) c.requires.3
+    (c.plain.ensures c.if-plain.true)))

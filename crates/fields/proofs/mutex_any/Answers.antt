@@ -8,55 +8,55 @@ use Rattle.fields.proofs.mutex_any.Goals as goal
 
 pub returns-then-t-at-ge8 : goal.returns-then-t-at-ge8
 returns-then-t-at-ge8 c =
-    let a = c.before.before.before.args in
+    let a = c.args in
     p-over a.t.now a.at (all_below a.t.now a.at a.limit) c.if-t-at-ge8.true
 
 pub returns-then-z-lt1 : goal.returns-then-z-lt1
 returns-then-z-lt1 c =
     let w = c.before in
-    let a = w.before.before.before.before.before.args in
-    z-low a.t.now a.at (all_below a.t.now a.at a.limit) w.before.before.if-t-at-ge8.false _ w.wide-z.ensures.0
+    let a = w.args in
+    z-low a.t.now a.at (all_below a.t.now a.at a.limit) w.if-t-at-ge8.false _ w.wide-z.ensures.0
     c.if-z-lt1.true
 
 pub returns-then-z-gt4 : goal.returns-then-z-gt4
 returns-then-z-gt4 c =
-    let w = c.before.before in
-    let a = w.before.before.before.before.before.args in
-    z-high a.t.now a.at (all_below a.t.now a.at a.limit) w.before.before.if-t-at-ge8.false _ w.wide-z.ensures.0
+    let w = c.before in
+    let a = w.args in
+    z-high a.t.now a.at (all_below a.t.now a.at a.limit) w.if-t-at-ge8.false _ w.wide-z.ensures.0
     c.if-z-gt4.true
 
 pub returns-then-t-at-ne0 : goal.returns-then-t-at-ne0
 returns-then-t-at-ne0 c =
-    let w = c.before.before.before.before.before.before in
-    let a = w.before.before.before.before.before.args in
-    q-used a.t.now a.at (all_below a.t.now a.at a.limit) w.before.before.if-t-at-ge8.false _ w.wide-z.ensures.0
-    c.before.before.before.before.before.if-z-lt1.false c.before.before.before.before.if-z-gt4.false 7 _
-    c.before.before.before.all_below.ensures
-    c.before.before.if-all_below.true c.if-t-at-ne0.true
+    let w = c.before in
+    let a = w.args in
+    q-used a.t.now a.at (all_below a.t.now a.at a.limit) w.if-t-at-ge8.false _ w.wide-z.ensures.0
+    c.if-z-lt1.false c.if-z-gt4.false 7 _
+    c.all_below.ensures
+    c.if-all_below.true c.if-t-at-ne0.true
 
 pub returns-then-blank : goal.returns-then-blank
 returns-then-blank c =
-    let w = c.before.before.before.before.before.before.before.before in
-    let a = w.before.before.before.before.before.args in
-    past-list a.t.now a.at (all_below a.t.now a.at a.limit) w.before.before.if-t-at-ge8.false _ w.wide-z.ensures.0
-    c.before.before.before.before.before.before.before.if-z-lt1.false
-    c.before.before.before.before.before.before.if-z-gt4.false 7 _ c.before.before.before.before.before.all_below.ensures
-    c.before.before.before.before.if-all_below.true c.before.before.if-t-at-ne0.false
-    (said-yes 9 _ c.before.blank.ensures c.if-blank.true)
+    let w = c.before in
+    let a = w.args in
+    past-list a.t.now a.at (all_below a.t.now a.at a.limit) w.if-t-at-ge8.false _ w.wide-z.ensures.0
+    c.if-z-lt1.false
+    c.if-z-gt4.false 7 _ c.all_below.ensures
+    c.if-all_below.true c.if-t-at-ne0.false
+    (said-yes 9 _ c.blank.ensures c.if-blank.true)
 
 pub returns-then-all_below : goal.returns-then-all_below
 returns-then-all_below c =
-    let w = c.before.before.before.before.before.before.before.before in
-    let a = w.before.before.before.before.before.args in
-    past-list a.t.now a.at (all_below a.t.now a.at a.limit) w.before.before.if-t-at-ge8.false _ w.wide-z.ensures.0
-    c.before.before.before.before.before.before.before.if-z-lt1.false
-    c.before.before.before.before.before.before.if-z-gt4.false 7 _ c.before.before.before.before.before.all_below.ensures
-    c.before.before.before.before.if-all_below.true c.before.before.if-t-at-ne0.false (said-no c.before.blank.ensures c.if-blank.false)
+    let w = c.before in
+    let a = w.args in
+    past-list a.t.now a.at (all_below a.t.now a.at a.limit) w.if-t-at-ge8.false _ w.wide-z.ensures.0
+    c.if-z-lt1.false
+    c.if-z-gt4.false 7 _ c.all_below.ensures
+    c.if-all_below.true c.if-t-at-ne0.false (said-no c.blank.ensures c.if-blank.false)
 
 pub returns : goal.returns
 returns c =
-    let w = c.before.before.before.before in
-    let a = w.before.before.before.before.before.args in
-    list-wrong a.t.now a.at (all_below a.t.now a.at a.limit) w.before.before.if-t-at-ge8.false _ w.wide-z.ensures.0
-    c.before.before.before.if-z-lt1.false c.before.before.if-z-gt4.false 7 _ c.before.all_below.ensures
+    let w = c.before in
+    let a = w.args in
+    list-wrong a.t.now a.at (all_below a.t.now a.at a.limit) w.if-t-at-ge8.false _ w.wide-z.ensures.0
+    c.if-z-lt1.false c.if-z-gt4.false 7 _ c.all_below.ensures
     c.if-all_below.false

