@@ -2,7 +2,6 @@
 -- Assumes nothing.
 use mathlib.Core.Path.{sym}
 use borrow.Author.Tests.{lt-ltb, le-ltb}
-use borrow.Author.Rules.{rules}
 use Rattle.pair_call.proofs.stands.Goals as goal
 
 pub returns-then-actors-actor : goal.returns-then-actors-actor

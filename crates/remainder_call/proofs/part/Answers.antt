@@ -1,5 +1,4 @@
 -- `remainder_call::part` meets its contract: the longer by the test of the two lengths. Assumes nothing.
-use borrow.Author.Rules.{rules}
 use borrow.Author.Tests.{lt-ltb, le-ltb}
 use Rattle.remainder_call.proofs.part.Goals as goal
 
