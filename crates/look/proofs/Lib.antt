@@ -1,5 +1,4 @@
 -- A look at a list, place by place.
 pub mod Places
 pub mod Found
-pub mod Coded
 pub mod Sees

@@ -10,7 +10,7 @@ use mathlib.Core.List.{List, [], ◌∷◌}
 use lib.Dec.{leb}
 use lib.ListN.{take}
 use lib.Seq.{take-nil}
-use borrow.Author.Tests.{leb-true, leb-false, le-leb, lt-leb}
+use borrow.Author.Tests.{leb-true, leb-false}
 use Rattle.trace.proofs.Bools.{which}
 use Rattle.model.specs.Local.{Seen, unseen, seen, first}
 
@@ -23,21 +23,10 @@ or-unseen : (s : Seen) → or_else s unseen ≡ s
 or-unseen unseen = refl
 or-unseen (seen place number value) = refl
 
--- a place that the list lacks
-pub beyond : (count p : ℕ) (s : Seen) → count < p → unseen ≡ cond (leb p count) s unseen
-beyond count p s h = rw (lt-leb p count h)
-
 module _ (test : ℕ → Bool) (value : ℕ → ℕ) (count : ℕ) where
   -- the look at one place, in a list of `count` numbers
   abbrev pub place : ℕ → ℕ → Seen
   place p x = cond (leb p count) (first test value p (x ∷ [])) unseen
-
-  -- a place that the list has, by its test's result
-  pub passed : (p x : ℕ) → p ≤ count → test x ≡ true → seen p x (value x) ≡ place p x
-  passed p x h t = rw (le-leb p count h, t)
-
-  pub failed : (p x : ℕ) → p ≤ count → test x ≡ false → unseen ≡ place p x
-  failed p x h t = rw (le-leb p count h, t)
 
   first-or : (p x : ℕ) (l : List ℕ) → first test value p (x ∷ l) ≡ or_else (first test value p (x ∷ [])) (first test value (suc p) l)
   first-or p x l = go (which (test x))

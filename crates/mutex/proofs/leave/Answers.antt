@@ -1,12 +1,7 @@
 -- `mutex::leave` meets its contract: nothing changes, a byte falls by 8, or those behind move up.
 -- Assumes nothing.
-use native.Mathlib.Omega.{arith}
 use Rattle.mutex.proofs.Steps.{stays, lessens, leaves}
 use Rattle.mutex.proofs.leave.Goals as goal
-
-pub place-i-requires : goal.place-i-requires
-place-i-requires c =
-    (c.requires.0.long, omega (arith, c.requires.0.bounded c.args.m, c.wide-n.ensures.0))
 
 pub returns-then-n-i : goal.returns-then-n-i
 returns-then-n-i c =
@@ -14,14 +9,6 @@ returns-then-n-i c =
     let n = c.wide-n in
     stays x.queues.now x.m x.a c.requires.0 c.requires.1 n.result n.ensures.0 c.place-i.result c.place-i.ensures
     c.if-n-i.true
-
-pub bounds-queues-at : goal.bounds-queues-at
-bounds-queues-at c =
-    omega (arith, c.requires.0.bounded c.args.m, c.wide-n.ensures.0)
-
-pub bounds-queues-at-then-b-ge8 : goal.bounds-queues-at-then-b-ge8
-bounds-queues-at-then-b-ge8 c =
-    omega (arith, c.requires.0.bounded c.args.m, c.wide-n.ensures.0)
 
 pub returns-then-b-ge8 : goal.returns-then-b-ge8
 returns-then-b-ge8 c =
@@ -31,10 +18,6 @@ returns-then-b-ge8 c =
     lessens x.queues.now x.m x.a c.requires.0 c.requires.1 n.result n.ensures.0 i.result i.ensures
     c.if-n-i.false
     c.if-b-ge8.true
-
-pub move_up-requires : goal.move_up-requires
-move_up-requires c =
-    (c.requires.0.long, omega (arith, c.requires.0.bounded c.args.m, c.wide-n.ensures.0))
 
 pub returns : goal.returns
 returns c =

@@ -1,17 +1,8 @@
 -- `mutex::place` meets its contract. The loop's invariant: the place among all n entries is i and the place among those from i on.
 -- Assumes nothing.
-use Prim.Native.Nat.{ℕ}
-use mathlib.Core.Path.{ap}
-use mathlib.Core.List.{List}
 use native.Mathlib.Omega.{arith}
-use Rattle.mutex.specs.Parts.{place_of}
-use Rattle.mutex.proofs.Scan.{rest-begin, place_found, place-passed, place_end}
+use Rattle.mutex.proofs.Scan.{place_found, place-passed}
 use Rattle.mutex.proofs.place.Goals as goal
-
-pub loop-i-init : goal.loop-i-init
-loop-i-init c =
-    let x = c.args in
-    (omega arith, omega (arith, ap (λ (l : List ℕ). place_of l x.actor) (rest-begin x.queues.now x.at x.n)))
 
 pub returns-then-actor-b : goal.returns-then-actor-b
 returns-then-actor-b c =
@@ -34,9 +25,3 @@ loop-i-preserved c =
         place-passed x.queues.now x.at x.n turn.i x.actor c.loop-i-test.true (omega arith) c.if-actor-b.false,
       ),
     )
-
-pub returns : goal.returns
-returns c =
-    let x = c.args in
-    let turn = c.loop-i in
-    omega (arith, turn.invariant.1, place_end x.queues.now x.at x.n turn.i x.actor c.loop-i-test.false)

@@ -7,7 +7,7 @@ use lib.ListN.{length, get_or, set}
 use Rattle.table.specs.Decode.{action_of}
 use Rattle.look.specs.Parts.{seen_of}
 use Rattle.step.specs.Parts.{Picks, SmallPlace}
-use Rattle.step.proofs.Taken.{ranged, position-small, actor-small, listed_small, pickable, small-place, room-to-post, quiet, posted, meets-as, queued, noted, of-next}
+use Rattle.step.proofs.Taken.{ranged, position-small, actor-small, listed_small, pickable, small-place, quiet, posted, meets-as, queued, noted, of-next}
 use Rattle.model.proofs.ReportBoundCells.{pick_up_seen-length}
 use mathlib.Core.List.{List}
 use Prim.Native.Nat.{ℕ, ◌+◌}
@@ -20,67 +20,6 @@ use Rattle.model.specs.Local.{Seen, pick_up_seen, place_seen, is_seen, cells_aft
 use Rattle.model.specs.Step.{taken, waiting}
 use Rattle.state.specs.declared.NextStep.TheVariants.{Taken}
 use Rattle.step.proofs.step.Goals as goal
-
-pub action-x-requires : goal.action-x-requires
-action-x-requires c = let S = c.requires in (S.accepted, S.actor, S.unfinished)
-
-pub put-requires : goal.put-requires
-put-requires c =
-    (c.requires.eight, ranged c.requires _ (sym c.action-x.ensures ∙ c.in-Set.is))
-
-pub next-requires : goal.next-requires
-next-requires c =
-    omega (arith, c.put.ensures.0, position-small c.requires)
-
-pub added-requires : goal.added-requires
-added-requires c =
-    let range = ranged c.requires _ (sym c.action-x.ensures ∙ c.in-Add.is) in
-    (c.requires.eight, range.0, range.1, position-small c.requires)
-
-pub lesser-requires : goal.lesser-requires
-lesser-requires c =
-    let range = ranged c.requires _ (sym c.action-x.ensures ∙ c.in-Lesser.is) in
-    (c.requires.eight, range.0, range.1)
-
-pub next-requires-in-Lesser : goal.next-requires-in-Lesser
-next-requires-in-Lesser c =
-    omega (arith, c.lesser.ensures.0, position-small c.requires)
-
-pub offset_bounds-r-cell : goal.offset_bounds-r-cell
-offset_bounds-r-cell c =
-    omega (arith, (ranged c.requires _ (sym c.action-x.ensures ∙ c.in-Send.is)).1, c.requires.eight)
-
-pub bounds-r-cell : goal.bounds-r-cell
-bounds-r-cell c =
-    omega (arith, (ranged c.requires _ (sym c.action-x.ensures ∙ c.in-Send.is)).1, c.requires.eight)
-
-pub overflow_add-a : goal.overflow_add-a
-overflow_add-a c =
-    omega (arith, position-small c.requires, actor-small c.requires)
-
-pub send-requires : goal.send-requires
-send-requires c =
-    let S = c.requires in
-    let range = ranged c.requires _ (sym c.action-x.ensures ∙ c.in-Send.is) in
-    (S.mail-room, omega (arith, position-small S, actor-small S), omega (arith, range.0, S.accepted.mailboxes-most), room-to-post S _ (sym c.action-x.ensures ∙ c.in-Send.is) refl _)
-
-pub next-requires-in-Send : goal.next-requires-in-Send
-next-requires-in-Send c =
-    position-small c.requires
-
-pub overflow_add-a-in-Receive : goal.overflow_add-a-in-Receive
-overflow_add-a-in-Receive c =
-    omega (arith, position-small c.requires, actor-small c.requires)
-
-pub receive-requires : goal.receive-requires
-receive-requires c =
-    let S = c.requires in
-    let range = ranged c.requires _ (sym c.action-x.ensures ∙ c.in-Receive.is) in
-    (S.mail-room, omega (arith, position-small S, actor-small S), omega (arith, range.0, S.accepted.mailboxes-most), room-to-post S _ (sym c.action-x.ensures ∙ c.in-Receive.is) refl _)
-
-pub next-requires-in-Receive : goal.next-requires-in-Receive
-next-requires-in-Receive c =
-    position-small c.requires
 
 pub communications-seen-requires : goal.communications-seen-requires
 communications-seen-requires c =
@@ -122,26 +61,6 @@ told-requires-in-WaitAny c =
       subst SmallPlace (sym c.communications-seen-in-WaitAny.ensures) (small-place _ _ _ range.1.most),
     )
 
-pub join-requires : goal.join-requires
-join-requires c =
-    let S = c.requires in
-    let range = ranged c.requires _ (sym c.action-x.ensures ∙ c.in-Lock.is) in
-    (S.queue-room, omega (arith, range, S.accepted.mutexes-most), actor-small S, S.join-room _, S.depth-room _)
-
-pub next-requires-in-Lock : goal.next-requires-in-Lock
-next-requires-in-Lock c =
-    position-small c.requires
-
-pub leave-requires : goal.leave-requires
-leave-requires c =
-    let S = c.requires in
-    let range = ranged c.requires _ (sym c.action-x.ensures ∙ c.in-Unlock.is) in
-    (S.queue-room, omega (arith, range, S.accepted.mutexes-most), actor-small S)
-
-pub next-requires-in-Unlock : goal.next-requires-in-Unlock
-next-requires-in-Unlock c =
-    position-small c.requires
-
 pub mutexes-seen-requires : goal.mutexes-seen-requires
 mutexes-seen-requires c =
     let S = c.requires in
@@ -165,28 +84,6 @@ told-requires-in-MutexWait c =
     let S = c.requires in
     let range = ranged c.requires _ (sym c.action-x.ensures ∙ c.in-MutexWait.is) in
     (S.eight, range.0, position-small S, subst SmallPlace (sym c.mutexes-seen-in-MutexWait.ensures) (small-place _ _ _ range.1.most))
-
-pub offset_bounds-r-cell-in-Note : goal.offset_bounds-r-cell-in-Note
-offset_bounds-r-cell-in-Note c =
-    omega (arith, ranged c.requires _ (sym c.action-x.ensures ∙ c.in-Note.is), c.requires.eight)
-
-pub bounds-r-cell-in-Note : goal.bounds-r-cell-in-Note
-bounds-r-cell-in-Note c =
-    omega (arith, ranged c.requires _ (sym c.action-x.ensures ∙ c.in-Note.is), c.requires.eight)
-
-pub overflow_add-a-in-Note : goal.overflow_add-a-in-Note
-overflow_add-a-in-Note c = omega (arith, position-small c.requires, actor-small c.requires)
-
-pub add-requires : goal.add-requires
-add-requires c =
-    let S = c.requires in (
-      S.journal-room,
-      S.note-room _ (sym c.action-x.ensures ∙ c.in-Note.is),
-      omega (arith, position-small S, actor-small S),
-    )
-
-pub next-requires-in-Note : goal.next-requires-in-Note
-next-requires-in-Note c = position-small c.requires
 
 pub returns-in-Set : goal.returns-in-Set
 unfolding cells_after
