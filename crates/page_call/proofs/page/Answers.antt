@@ -1,0 +1,40 @@
+-- `page_call::page` meets its contract: 20, then what the execution refuses; and only an accepted page writes. Assumes nothing.
+use mathlib.Core.Path.{ap}
+use native.Mathlib.Omega.{arith}
+use Rattle.model.specs.Schedule.{end_state}
+use Rattle.model.specs.Calls.{ready_checks}
+use Rattle.model.specs.Page.{page, page_of}
+use Rattle.model.proofs.Fills.{too_small, rest-refused, rest-accepted}
+use Rattle.page_call.proofs.Pages.{page-small, pageable, page-held}
+use Rattle.page_call.proofs.page.Goals as goal
+
+pub returns-then-buffer-lt816 : goal.returns-then-buffer-lt816
+unfolding page_of
+returns-then-buffer-lt816 c =
+    let both = too_small 816 20 (ready_checks c.args.table.now c.args.schedule.now) (page c.args.table.now (end_state c.args.table.now c.args.schedule.now)) c.args.buffer.now c.if-buffer-lt816.true in
+    record { answer = both.0; lent = both.1 }
+
+pub write-n-requires : goal.write-n-requires
+write-n-requires c =
+    let E = c.execute-execution.ensures.ended c.in-End.is in
+    pageable E (λ j. omega (arith, c.type_inv.table j)) c.args.buffer.now c.if-buffer-lt816.false
+
+pub overflow_cast-result : goal.overflow_cast-result
+overflow_cast-result c =
+    let E = c.execute-execution.ensures.ended c.in-End.is in
+    omega (arith, c.write-n.ensures.0, page-small E (λ j. omega (arith, c.type_inv.table j)))
+
+pub returns-in-End : goal.returns-in-End
+unfolding page_of
+returns-in-End c =
+    let E = c.execute-execution.ensures.ended c.in-End.is in
+    let w = c.write-n in
+    let held = rw (page-held E) at w.ensures in
+    let both = rest-accepted 816 20 (ready_checks c.args.table.now c.args.schedule.now) (page c.args.table.now (end_state c.args.table.now c.args.schedule.now)) c.args.buffer.now _ _ _ c.if-buffer-lt816.false E.checked (ap (page c.args.table.now) E.end.site) held.0 held.1 in
+    record { answer = both.0; lent = both.1 }
+
+pub returns-in-Refused : goal.returns-in-Refused
+unfolding page_of
+returns-in-Refused c =
+    let both = rest-refused 816 20 (ready_checks c.args.table.now c.args.schedule.now) (page c.args.table.now (end_state c.args.table.now c.args.schedule.now)) c.args.buffer.now c.if-buffer-lt816.false (c.execute-execution.ensures.refusal c.in-Refused.refusal c.in-Refused.is) in
+    record { answer = both.0; lent = both.1 }
