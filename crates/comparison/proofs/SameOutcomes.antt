@@ -56,7 +56,7 @@ module _ {table first second first_bytes second_bytes : List ℕ} where
       record {
         right =
             h
-            ∙ sym (comparison-checked table first second (then-both J.read (then-both J.first_Fine J.second-fine))
+            ∙ sym (comparison-checked table first second (then-both J.read (then-both J.first_fine J.second-fine))
             ∙ (λ i. gives (record { verdict = cond (e i) alike different; pairs = k i })));
         kept = λ n s. (J.first-kept, J.second-kept);
       }

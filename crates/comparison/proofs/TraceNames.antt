@@ -66,7 +66,7 @@ pub none-compared : (table first second : List ℕ) → (length first ≡ length
 unfolding pairs_compared
 none-compared table first second h = rw (ne_eqb (length first) (length second) h)
 
-module _ (table first second first_bytes second_bytes : List ℕ) (first_Fine : accepted (machine table) initial first ≡ true)
+module _ (table first second first_bytes second_bytes : List ℕ) (first_fine : accepted (machine table) initial first ≡ true)
     (second-fine : accepted (machine table) initial second ≡ true) (K : Kept table first first_bytes) (J : Kept table second second_bytes)
     (long : length first ≡ length second) where
   second-names : names_in (length first) second_bytes ≡ names (machine table) initial second
@@ -79,10 +79,10 @@ module _ (table first second first_bytes second_bytes : List ℕ) (first_Fine : 
         first-long = K.bytes-long;
         second-long = J.bytes-long;
         most = K.entries-most;
-        stand = stands table first first_bytes first_Fine K;
-        first-distinct = rw K.names-right (once table first first_Fine);
+        stand = stands table first first_bytes first_fine K;
+        first-distinct = rw K.names-right (once table first first_fine);
         second-distinct = rw second-names (once table second second-fine);
-        own-order = λ x y e b. rw second-names (one-order (laws table) initial first second (inv-initial table) first_Fine second-fine x y e (rw K.names-right at b));
+        own-order = λ x y e b. rw second-names (one-order (laws table) initial first second (inv-initial table) first_fine second-fine x y e (rw K.names-right at b));
       }
 
   -- schedules of one length run the same steps where the second has the first's names
@@ -94,7 +94,7 @@ module _ (table first second first_bytes second_bytes : List ℕ) (first_Fine : 
           → same_steps (machine table) initial first second ≡ within (names (machine table) initial first) (names (machine table) initial second)
       go (inl w) =
           let back : within (names (machine table) initial second) (names (machine table) initial first) ≡ true =
-          one_way (laws table) initial (inv-initial table) first second first_Fine long w in
+          one_way (laws table) initial (inv-initial table) first second first_fine long w in
           rw (eq-eqb (length first) (length second) long, w, back)
       go (inr w) = rw (eq-eqb (length first) (length second) long, w)
 
@@ -130,12 +130,12 @@ module _ (table first second first_bytes second_bytes : List ℕ) (first_Fine : 
   routable buffer alike room =
       let parts : SameParts (machine table) initial first second = same_parts (machine table) initial first second alike in
       let most : length (route (machine table) initial first second) ≤ most_exchanges (length first) =
-      ((site-theorems table).shortest-route first second first_Fine second-fine alike).length-bound in
+      ((site-theorems table).shortest-route first second first_fine second-fine alike).length-bound in
       record {
         first-long = K.bytes-long;
         second-long = J.bytes-long;
         most = K.entries-most;
-        first-distinct = rw K.names-right (once table first first_Fine);
+        first-distinct = rw K.names-right (once table first first_fine);
         second-distinct = rw second-names (once table second second-fine);
         in-second = rw (K.names-right, second-names) parts.in-second;
         in-first = rw (K.names-right, second-names) parts.in-first;

@@ -14,18 +14,6 @@ returns-then-a-b c =
     let x = c.args in
     sym (depends-own x.table.now (name x.a x.k) (name x.b x.l) c.if-a-b.true)
 
-pub action-x-requires : goal.action-x-requires
-action-x-requires c = let p = c.requires in (p.0, p.1.0, p.1.1)
-
-pub action-y-requires : goal.action-y-requires
-action-y-requires c = let p = c.requires in (p.0, p.2.0, p.2.1)
-
-pub code-code-requires : goal.code-code-requires
-code-code-requires c = (
-  omega (arith, c.kind-i.ensures, (by_kind c.action-x.result).kind-most),
-  omega (arith, c.kind-j.ensures, (by_kind c.action-y.result).kind-most),
-)
-
 pub compare-requires : goal.compare-requires
 compare-requires c =
     let x = c.args in

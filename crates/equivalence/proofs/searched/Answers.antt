@@ -1,20 +1,13 @@
 -- `equivalence::searched` meets its contract. The loop's invariant is `Searching`: the steps before j are passed, and cross none.
 -- Assumes nothing.
 use mathlib.Core.Path.{refl}
-use Rattle.equivalence.proofs.Searching.{fewer, search-begins, search-next, search-finds, search-ends}
+use Rattle.equivalence.proofs.Searching.{search-begins, search-next, search-finds, search-ends}
 use Rattle.equivalence.proofs.searched.Goals as goal
 
 pub loop-j-init : goal.loop-j-init
 loop-j-init c =
     let x = c.args in
     search-begins x.table.now x.first.now x.places.now x.m
-
-pub pass-met-requires : goal.pass-met-requires
-pass-met-requires c =
-    (c.requires.accepted, rw c.wide-name.ensures.0 (c.requires.stand c.loop-j.j c.loop-j-test.true), c.loop-j.invariant.rooms)
-
-pub earliest-i-requires : goal.earliest-i-requires
-earliest-i-requires c = fewer c.requires c.loop-j-test.true
 
 pub returns-then-place-met : goal.returns-then-place-met
 returns-then-place-met c =

@@ -15,11 +15,6 @@ use Rattle.footprint.proofs.Lists.{
 }
 use Rattle.footprint.proofs.communications.Goals as goal
 
-pub communication-one-requires : goal.communication-one-requires
-communication-one-requires c =
-    let x = c.args in
-    (c.requires.0, λ h. listed_at (λ k. Stands x.table.now (name x.a k)) x.list 0 c.requires.1 (lit< tt) (omega (arith, h)), c.requires.2)
-
 pub communication-two-requires : goal.communication-two-requires
 communication-two-requires c =
     let x = c.args in (
@@ -34,14 +29,6 @@ communication-three-requires c =
       c.requires.0,
       λ h. listed_at (λ k. Stands x.table.now (name x.a k)) x.list 2 c.requires.1 (lit< tt) (omega (arith, h)),
       looked-rooms (looked-rooms c.requires.2 c.communication-one.ensures) c.communication-two.ensures,
-    )
-
-pub communication-four-requires : goal.communication-four-requires
-communication-four-requires c =
-    let x = c.args in (
-      c.requires.0,
-      λ h. listed_at (λ k. Stands x.table.now (name x.a k)) x.list 3 c.requires.1 (lit< tt) (omega (arith, h)),
-      looked-rooms (looked-rooms (looked-rooms c.requires.2 c.communication-one.ensures) c.communication-two.ensures) c.communication-three.ensures,
     )
 
 pub returns : goal.returns

@@ -13,10 +13,6 @@ use Rattle.footprint.proofs.Lists.{
 }
 use Rattle.footprint.proofs.mutexes.Goals as goal
 
-pub mutex-one-requires : goal.mutex-one-requires
-mutex-one-requires c =
-    (λ h. listed_at (λ m. m < 8) c.args.list 0 c.requires.0 (lit< tt) (omega (arith, h)), c.requires.1)
-
 pub mutex-two-requires : goal.mutex-two-requires
 mutex-two-requires c = (
   λ h. listed_at (λ m. m < 8) c.args.list 1 c.requires.0 (lit< tt) (omega (arith, h)),
@@ -27,12 +23,6 @@ pub mutex-three-requires : goal.mutex-three-requires
 mutex-three-requires c = (
   λ h. listed_at (λ m. m < 8) c.args.list 2 c.requires.0 (lit< tt) (omega (arith, h)),
   looked-rooms (looked-rooms c.requires.1 c.mutex-one.ensures) c.mutex-two.ensures,
-)
-
-pub mutex-four-requires : goal.mutex-four-requires
-mutex-four-requires c = (
-  λ h. listed_at (λ m. m < 8) c.args.list 3 c.requires.0 (lit< tt) (omega (arith, h)),
-  looked-rooms (looked-rooms (looked-rooms c.requires.1 c.mutex-one.ensures) c.mutex-two.ensures) c.mutex-three.ensures,
 )
 
 pub returns : goal.returns

@@ -23,6 +23,19 @@ use Rattle.page.proofs.write.Goals as goal
 abbrev taken : List Actor → ℕ → Actor
 taken actors a = get_or actors a (record { cells = []; position = 0 })
 
+-- what a look at an actor of the table may rely on, with a record of the array
+looked : {table : List ℕ} {actors : List Actor} {comms queues buf : List ℕ} → Pageable table actors comms queues buf → (a : ℕ) → a < 8
+    → {b : ℕ} → b < actors_of table → Looked table b (taken actors a) comms queues
+looked {actors = actors} P a few h =
+    let p = P.answerable in
+    record {
+      accepted = p.accepted;
+      actor = h;
+      eight = rw (get_or-within actors a (record { cells = []; position = 0 }) fresh_actor (omega (arith, p.actors-long))) (p.eight a);
+      comms-room = p.comms-room;
+      queue-room = p.queue-room;
+    }
+
 module _ {table : List ℕ} {actors : List Actor} {comms queues buf : List ℕ} (P : Pageable table actors comms queues buf) {n a : ℕ}
     (counted : n ≡ actors_of table) (h : a < n) where
   -- an actor of the table is one of the eight
@@ -31,17 +44,6 @@ module _ {table : List ℕ} {actors : List Actor} {comms queues buf : List ℕ} 
 
   taken-same : taken actors a ≡ get_or actors a fresh_actor
   taken-same = get_or-within actors a _ _ (omega (arith, one, P.answerable.actors-long))
-
-  looked : Looked table a (taken actors a) comms queues
-  looked =
-      let p = P.answerable in
-      record {
-        accepted = p.accepted;
-        actor = omega arith;
-        eight = rw taken-same (p.eight a);
-        comms-room = p.comms-room;
-        queue-room = p.queue-room;
-      }
 
   line_same : (t : Status) → status_as t ≡ status_from table a (taken actors a) comms queues
       → line (actor_text a (record_of (taken actors a)) (status_as t)) ≡ line_from table actors comms queues a
@@ -62,13 +64,14 @@ loop-a-init c =
     first-turn (rw c.actors-n.ensures (rw (page-lines c.args.table.now c.args.actors c.args.comms.now c.args.queues.now) at c.requires.room))
 
 pub offset_bounds-actors-a : goal.offset_bounds-actors-a
-offset_bounds-actors-a c = omega (arith, one c.requires c.actors-n.ensures c.loop-a-test.true)
+offset_bounds-actors-a c = omega (arith, c.actors-n.ensures, c.requires.answerable.accepted.actors-most)
 
 pub bounds-actors-a : goal.bounds-actors-a
-bounds-actors-a c = one c.requires c.actors-n.ensures c.loop-a-test.true
+bounds-actors-a c = omega (arith, c.actors-n.ensures, c.requires.answerable.accepted.actors-most)
 
 pub status_of-status-requires : goal.status_of-status-requires
-status_of-status-requires c = looked c.requires c.actors-n.ensures c.loop-a-test.true
+status_of-status-requires c =
+    looked c.requires c.loop-a.a (omega (arith, c.actors-n.ensures, c.requires.answerable.accepted.actors-most)) (omega (arith, c.actors-n.ensures))
 
 pub slice_bounds-actor_line-count : goal.slice_bounds-actor_line-count
 slice_bounds-actor_line-count c = next-at c.loop-a.invariant c.loop-a-test.true

@@ -4,7 +4,6 @@ use mathlib.Core.Path.{◌∙◌, ap, sym}
 use mathlib.Core.Bool.{true, false}
 use Rattle.table.specs.Answer.{outcome}
 use Rattle.model.specs.Site.{name}
-use Rattle.names.proofs.Steps.{in-table}
 use Rattle.pair_call.proofs.PairOutcomes.{refusing, table-refused, no-first, no_second, pair-given}
 use Rattle.pair_call.proofs.pair.Goals as goal
 
@@ -25,15 +24,6 @@ returns-then-not-stands-2 c =
     let x = name c.args.actor c.args.action in
     let y = name c.args.actor2 c.args.action2 in
     no_second c.args.table.now x y (sym c.read-reading.ensures.result_value ∙ ap outcome c.in-Valid.is) (sym c.stands.ensures ∙ c.if-not-stands.false) (sym c.stands-2.ensures ∙ c.if-not-stands-2.true)
-
-pub dependent-requires : goal.dependent-requires
-dependent-requires c =
-    let x = name c.args.actor c.args.action in
-    let y = name c.args.actor2 c.args.action2 in (
-      c.read-reading.ensures.well_formed c.in-Valid.is,
-      in-table c.args.table.now x (sym c.stands.ensures ∙ c.if-not-stands.false),
-      in-table c.args.table.now y (sym c.stands-2.ensures ∙ c.if-not-stands-2.false),
-    )
 
 pub returns-then-dependent : goal.returns-then-dependent
 returns-then-dependent c =

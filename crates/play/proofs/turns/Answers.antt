@@ -282,8 +282,11 @@ loop-i-preserved c =
                 known_next (rule_of x.policy) (policy-chooses x.policy) x.table.now whole (kept_of l.policy) l.invariant.0 M.rest (masked j m) t.0
                 actor turned next;
             last-in =
-                turn-in-table (rule_of x.policy) (policy-chooses x.policy) x.table.now whole (kept_of l.policy) l.invariant.0 M.rest (masked j m) t.0
-                actor turned;
+                omega (
+                  arith,
+                  turn-in-table (rule_of x.policy) (policy-chooses x.policy) x.table.now whole (kept_of l.policy) l.invariant.0 M.rest (masked j m)
+                      t.0 actor turned,
+                );
             quiet = λ some posted.
                 open_next (rule_of x.policy) (policy-chooses x.policy) x.table.now whole (kept_of l.policy) l.invariant.0 M.rest (masked j m) t.0
                 actor turned next posted;

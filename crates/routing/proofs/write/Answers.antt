@@ -2,11 +2,10 @@
 use mathlib.Core.Path.{◌≡◌, refl, ◌∙◌, ap, sym, subst}
 use mathlib.Core.List.{List}
 use Prim.Native.Nat.{ℕ, ◌≤◌}
-use native.Mathlib.Omega.{arith}
 use lib.ListN.{length}
 use Rattle.model.specs.Report.{parts}
 use Rattle.writing.specs.Written.{Wrote}
-use Rattle.writing.proofs.Loops.{first-turn, next_fits, next-store, all-wrote, all-length}
+use Rattle.writing.proofs.Loops.{first-turn, next-store, all-wrote}
 use Rattle.routing.proofs.Positions.{position_at, pull-length, positions-pull}
 use Rattle.routing.proofs.write.Goals as goal
 
@@ -16,14 +15,8 @@ loop-k-init c =
     let count : length (parts (position_at x.b x.way) x.way 0) ≡ x.way = ap length (positions-pull x.b x.way) ∙ pull-length x.b x.way in
     first-turn (subst (λ (n : ℕ). n ≤ length x.positions.now) (sym count) c.requires.1)
 
-pub bounds-positions-k : goal.bounds-positions-k
-bounds-positions-k c = omega (arith, next_fits c.loop-k.invariant c.loop-k-test.true)
-
 pub loop-k-preserved : goal.loop-k-preserved
 loop-k-preserved c = next-store c.loop-k.invariant c.loop-k-test.true refl
-
-pub shape_of-positions : goal.shape_of-positions
-shape_of-positions c = all-length c.loop-k.invariant c.loop-k-test.false
 
 pub returns : goal.returns
 returns c =

@@ -18,12 +18,11 @@ use Rattle.equivalence.specs.Judged.{Judges}
 use Rattle.comparison.specs.Traces.{Judged}
 use Rattle.comparison.proofs.TraceNames.{lengths-apart, none-compared, comparable, verdict, number}
 use Rattle.comparison.proofs.SameOutcomes.{judged}
-use Rattle.comparison.proofs.judge.Statement.{statement}
-use Rattle.comparison.proofs.judge.Tie as tie
+use Rattle.comparison.proofs.judge.Goals as goal
 
 -- both schedules are accepted
 first_taken : {table first second first_bytes second_bytes : List ℕ} → Judged table first second first_bytes second_bytes → accepted (machine table) initial first ≡ true
-first_taken {table} {first} J = checks-taken table first_numbers initial 0 first J.first_Fine
+first_taken {table} {first} J = checks-taken table first_numbers initial 0 first J.first_fine
 
 second-taken : {table first second first_bytes second_bytes : List ℕ} → Judged table first second first_bytes second_bytes → accepted (machine table) initial second ≡ true
 second-taken {table} {first} {second} J = checks-taken table second_numbers initial 0 second J.second-fine
@@ -37,34 +36,25 @@ found {table} {first} {second} {first_bytes} {second_bytes} J long r h = (
   number table first second first_bytes second_bytes (first_taken J) (second-taken J) J.first-kept J.second-kept long r h,
 )
 
-returns : tie.Need-returns
-returns c =
-    let s = c.before.before.before.before in
-    let x = s.args in
-    judged false 0 s.requires (lengths-apart x.table.now x.first.now x.second.now c.if1.true)
-    (none-compared x.table.now x.first.now x.second.now c.if1.true) refl
+pub returns-then-m-second : goal.returns-then-m-second
+returns-then-m-second c =
+    let x = c.args in
+    judged false 0 c.requires (lengths-apart x.table.now x.first.now x.second.now c.if-m-second.true)
+    (none-compared x.table.now x.first.now x.second.now c.if-m-second.true) refl
 
-same-requires : tie.Need-same-requires
-same-requires c κs =
-    let s = c.before.before.before.before in
-    let x = s.args in
-    let J = s.requires in
+pub same-comparison-requires : goal.same-comparison-requires
+same-comparison-requires c =
+    let x = c.args in
+    let J = c.requires in
     comparable x.table.now x.first.now x.second.now x.names.now x.others.now (first_taken J) (second-taken J) J.first-kept
-    J.second-kept c.if1.false J.promise
+    J.second-kept c.if-m-second.false J.promise
 
-returns-2 : tie.Need-returns-2
-returns-2 c =
-    let s = c.before.before.before.before.before.before in
-    let J = s.requires in
-    let v = found J c.before.before.if1.false c.before.same.result c.before.same.ensures in
-    judged true _ J (v.0 ∙ c.if2.true) v.1 refl
+pub returns-then-comparison : goal.returns-then-comparison
+returns-then-comparison c =
+    let v = found c.requires c.if-m-second.false c.same-comparison.result c.same-comparison.ensures in
+    judged true _ c.requires (v.0 ∙ c.if-comparison.true) v.1 refl
 
-returns-3 : tie.Need-returns-3
-returns-3 c =
-    let s = c.before.before.before.before.before.before in
-    let J = s.requires in
-    let v = found J c.before.before.if1.false c.before.same.result c.before.same.ensures in
-    judged false _ J (v.0 ∙ c.if2.false) v.1 refl
-
-pub judge-spec : {M : Type 1} → statement M
-judge-spec = tie.close (tie.spec returns same-requires returns-2 returns-3)
+pub returns : goal.returns
+returns c =
+    let v = found c.requires c.if-m-second.false c.same-comparison.result c.same-comparison.ensures in
+    judged false _ c.requires (v.0 ∙ c.if-comparison.false) v.1 refl
