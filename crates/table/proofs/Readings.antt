@@ -1,6 +1,6 @@
 -- What a test of a reading's variant says of its outcome: `Valid` accepts, and every other variant refuses, so that nothing after it counts.
 -- Assumes nothing.
-use mathlib.Core.Path.{◌≡◌, refl, ◌∙◌, ap, sym}
+use mathlib.Core.Path.{◌≡◌, refl, ◌∙◌, ap, sym, subst}
 use mathlib.Core.List.{List, [], ◌∷◌}
 use Prim.Native.Nat.{ℕ, ◌+◌, ◌-◌, ◌<◌}
 use native.Mathlib.Omega.{arith}
@@ -33,8 +33,8 @@ accepts (Listed at) e = absurd (omega arith)
 accepts (Unused at) e = absurd (omega arith)
 
 -- a reading that refuses has a number and a position
-pub refusing : (r : Reading) → OneOf refusals (variant r) → outcome r ≡ refused (number_of (outcome r)) (position_of (outcome r))
-refusing Valid h = absurd (miss refusals 0 tt h)
+pub refusing : (r : Reading) → (r ≡ Valid → ⊥) → outcome r ≡ refused (number_of (outcome r)) (position_of (outcome r))
+refusing Valid h = absurd (h refl)
 refusing Short h = refl
 refusing Edition h = refl
 refusing Counts h = refl
@@ -46,7 +46,9 @@ refusing (Listed at) h = refl
 refusing (Unused at) h = refl
 
 refuses : (r : Reading) → OneOf refusals (variant r) → (after : Outcome) → (outcome r ⨾ after) ≡ outcome r
-refuses r h after = ap (λ (o : Outcome). o ⨾ after) (refusing r h) ∙ sym (refusing r h)
+refuses r h after =
+    let other : r ≡ Valid → ⊥ = λ e. miss refusals 0 tt (subst (λ (q : Reading). OneOf refusals (variant q)) e h) in
+    ap (λ (o : Outcome). o ⨾ after) (refusing r other) ∙ sym (refusing r other)
 
 -- a loop at i of n whose check is what a reading says: a reading that refuses is the outcome
 pub each-reads : (f : ℕ → Outcome) (n i : ℕ) → i < n → (r : Reading) → outcome r ≡ f i → OneOf refusals (variant r)

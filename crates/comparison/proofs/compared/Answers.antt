@@ -1,31 +1,16 @@
 -- `comparison::compared` meets its contract: a table that is refused, or a first schedule that halts early, decides; after an accepted one the second
 -- follows.
 -- Assumes nothing.
-use mathlib.Core.Path.{◌≡◌, refl, ◌∙◌, ap, sym}
+use mathlib.Core.Path.{refl, ◌∙◌, ap, sym}
 use Rattle.table.specs.Read.{read_of}
-use Rattle.table.specs.Outcome.{refused, number_of, position_of}
 use Rattle.table.specs.Answer.{outcome}
-use Rattle.table.specs.declared.Reading.{Reading}
-use Rattle.table.specs.declared.Reading.TheVariants.{Valid, Short, Edition, Counts, Directory, Length, Kind, Range, Listed, Unused}
 use Rattle.table.proofs.Checks.{then-refused}
+use Rattle.table.proofs.Readings.{refusing}
 use Rattle.model.specs.Schedule.{first_numbers}
 use Rattle.play.specs.Parts.{halt_of}
 use Rattle.answers.proofs.Stops.{stop-refused}
 use Rattle.comparison.proofs.SameOutcomes.{compared-refused, first-refused}
 use Rattle.comparison.proofs.compared.Goals as goal
-
--- a reading that is not `Valid` refuses, with a number and a position
-refusing : (r : Reading) → (r ≡ Valid → ⊥) → outcome r ≡ refused (number_of (outcome r)) (position_of (outcome r))
-refusing Valid h = absurd (h refl)
-refusing Short h = refl
-refusing Edition h = refl
-refusing Counts h = refl
-refusing Directory h = refl
-refusing Length h = refl
-refusing (Kind at) h = refl
-refusing (Range at) h = refl
-refusing (Listed at) h = refl
-refusing (Unused at) h = refl
 
 pub returns-in_default : goal.returns-in_default
 returns-in_default c =

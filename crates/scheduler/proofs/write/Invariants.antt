@@ -1,11 +1,8 @@
 -- The loop's invariant and measure.
 -- Assumes nothing.
-use mathlib.Core.Path.{◌≡◌, refl, ◌∙◌, ap}
-use mathlib.Core.List.{List}
-use Prim.Native.Nat.{ℕ, ◌-◌, ◌≤◌}
-use native.Mathlib.Omega.{arith}
-use lib.ListN.{length, get_or, set}
-use Rattle.scheduler.proofs.Entries.{actor_in, written, written-long, written_next}
+use mathlib.Core.Path.{◌≡◌}
+use Prim.Native.Nat.{◌-◌, ◌≤◌}
+use Rattle.scheduler.proofs.Entries.{written}
 use Rattle.scheduler.proofs.write.Given as goal
 
 abbrev pub invariant-loop-i : goal.invariant-loop-i
