@@ -47,10 +47,6 @@ module _ (f : ℕ → Bool) (l : Numbers) where
   pub at_second : {r1 r2 : Bool} → r1 ≡ passes 1 l.n0 → r1 ≡ false → r2 ≡ passes 2 l.n1 → r2 ≡ true → true ≡ any_of f (listed l)
   at_second e1 f1 e2 t = sym (rw (sym e1 ∙ f1, sym e2 ∙ t) at places)
 
-  pub at-third : {r1 r2 r3 : Bool} → r1 ≡ passes 1 l.n0 → r1 ≡ false → r2 ≡ passes 2 l.n1 → r2 ≡ false → r3 ≡ passes 3 l.n2 → r3 ≡ true
-      → true ≡ any_of f (listed l)
-  at-third e1 f1 e2 f2 e3 t = sym (rw (sym e1 ∙ f1, sym e2 ∙ f2, sym e3 ∙ t) at places)
-
   pub at-fourth : {r1 r2 r3 r4 : Bool} → r1 ≡ passes 1 l.n0 → r1 ≡ false → r2 ≡ passes 2 l.n1 → r2 ≡ false → r3 ≡ passes 3 l.n2
       → r3 ≡ false → r4 ≡ passes 4 l.n3 → r4 ≡ any_of f (listed l)
   at-fourth e1 f1 e2 f2 e3 f3 e4 = e4 ∙ sym (rw (sym e1 ∙ f1, sym e2 ∙ f2, sym e3 ∙ f3) at places)

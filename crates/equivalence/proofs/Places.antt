@@ -1,8 +1,7 @@
 -- The place of a byte's name in the second list, by the last place at which the byte stands there, and the index of these places.
 -- Assumes nothing.
-use Prim.Native.Nat.{ℕ, zero, suc, ◌+◌, ◌<◌, ◌≤◌}
+use Prim.Native.Nat.{ℕ, zero, suc, ◌<◌, ◌≤◌}
 use native.Mathlib.Nat.{le_of_suc-le-suc, not-suc-le-zero, eq-or-lt_of_le}
-use native.Mathlib.Numerals.{add-one}
 use native.Mathlib.Omega.{arith}
 use mathlib.Core.Path.{◌≡◌, refl, sym, ◌∙◌, ap}
 use mathlib.Core.Logic.{◌⊎◌, inl, inr}
@@ -10,8 +9,7 @@ use mathlib.Core.Bool.{true, false}
 use mathlib.Core.List.{List}
 use borrow.Author.Tests.{eqb-true, eqb-false}
 use lib.Dec.{eqb}
-use lib.ListN.{length, get_or, set, replicate, length-set, length-replicate, get_or-replicate}
-use lib.Seq.{get_or-set_same, get_or-set_other}
+use lib.ListN.{length, get_or, replicate, length-replicate, get_or-replicate}
 use Rattle.trace.specs.Order.{mem, Distinct}
 use Rattle.trace.specs.Route.{place}
 use Rattle.trace.proofs.Bools.{which, is_false}
@@ -24,22 +22,6 @@ use Rattle.names.proofs.NamedBytes.{named-once, named_in, in-named, place-named}
 
 pub index-begins : (second : List ℕ) → Indexed second 0 (replicate 256 256)
 index-begins second = record { long = length-replicate {A = ℕ} 256 256; at = λ b h. get_or-replicate {A = ℕ} 256 b 256 0 h }
-
-pub index-next : (second index : List ℕ) (i n : ℕ) → Indexed second i index → n ≡ get_or second i 0 → n < 256
-    → Indexed second (i + 1) (set index n i)
-index-next second index i n known e small =
-    record { long = length-set index n i ∙ known.long; at = λ b h. rw add-one (go b h (which (eqb b (get_or second i 0)))) }
-  where
-    go : (b : ℕ) → b < 256 → (eqb b (get_or second i 0) ≡ true) ⊎ (eqb b (get_or second i 0) ≡ false)
-        → get_or (set index n i) b 0 ≡ last_in second (suc i) b
-    go b h (inl t) =
-        let p : b ≡ n = eqb-true b (get_or second i 0) t ∙ sym e in
-        let inside : n < length index = rw known.long small in
-        rw (t, p) (get_or-set_same index n i 0 inside)
-    go b h (inr f) = rw f (get_or-set_other index n b i 0 (λ p. eqb-false b (get_or second i 0) f (p ∙ e)) ∙ known.at b h)
-
-pub index-ends : (second index : List ℕ) (i m : ℕ) → Indexed second i index → i ≡ m → Indexed second m index
-index-ends second index i m known e = rw e at known
 
 -- ---- the last place of a byte: one of its places, or 256 where it has none
 

@@ -24,18 +24,6 @@ use Rattle.equivalence.proofs.Below.{below-some, below_none}
 use Rattle.equivalence.proofs.Latest.{latest-begins, latest-next}
 use Rattle.equivalence.proofs.Crossing.{place_at, PostsBefore, LooksBefore, crossing-test}
 
--- fewer steps
-pub fewer : {table first places : List ℕ} {m n : ℕ} → Placed table first places m → n ≤ m → Placed table first places n
-fewer p h =
-    record {
-      accepted = p.accepted;
-      first-long = p.first-long;
-      places-long = p.places-long;
-      most = omega (arith, p.most);
-      stand = λ i l. p.stand i (omega arith);
-      own-order = λ i j l k. p.own-order i j l (omega arith);
-    }
-
 module _ (table first places : List ℕ) (m : ℕ) where
   -- the steps before j are passed, and the search is going, with all of their pairs compared
   pub record Searching (posts looks : List ℕ) (pairs j : ℕ) : Type 0 where

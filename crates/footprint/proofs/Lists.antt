@@ -7,7 +7,7 @@ use mathlib.Core.Path.{◌≡◌, refl, ◌∙◌, ap, ap₂, sym}
 use mathlib.Core.Logic.{◌⊎◌, inl, inr}
 use mathlib.Core.Bool.{true, false}
 use mathlib.Core.List.{List, [], ◌∷◌, ◌++◌, append_assoc, append-nil}
-use borrow.Author.Tests.{leb-true, leb-false, le-leb, lt-leb}
+use borrow.Author.Tests.{leb-true, leb-false}
 use lib.Dec.{leb}
 use lib.ListN.{length, get_or, set, take}
 use lib.Seq.{take-nil}
@@ -18,30 +18,10 @@ use Rattle.footprint.proofs.Raised.{raised_long}
 
 -- ---- one number
 
--- nothing is looked at
-pub looked-nothing : {place r : ℕ} {posts looks looks' : List ℕ} → r ≡ 0 → looks' ≡ looks → Looked [] place posts looks looks' r
-looked-nothing e k = record { met = e; looks-raised = k }
-
-pub looked-one : {place r s : ℕ} {posts looks looks' : List ℕ} → r ≡ get_or posts s 0 → looks' ≡ set looks s (max (get_or looks s 0) place)
-    → Looked (s ∷ []) place posts looks looks' r
-looked-one e k = record { met = omega (arith, e); looks-raised = k }
-
--- the same resources
-pub looked-as : {l l' : List ℕ} {place r : ℕ} {posts looks looks' : List ℕ} → l ≡ l' → Looked l place posts looks looks' r
-    → Looked l' place posts looks looks' r
-looked-as e seen = rw e at seen
-
 -- there is as much room after a look
 pub looked-rooms : {l : List ℕ} {place r : ℕ} {posts looks looks' : List ℕ} → Rooms posts looks → Looked l place posts looks looks' r → Rooms posts looks'
 looked-rooms {l} {place} {r} {posts} {looks} room seen =
     record { posts-long = room.posts-long; looks-long = ap length seen.looks-raised ∙ raised_long place l looks ∙ room.looks-long }
-
--- a number that the list lacks, and one that it has
-pub beyond : (count n : ℕ) (l : List ℕ) → count < n → up_to count n l ≡ []
-beyond count n l h = rw (lt-leb n count h)
-
-pub within : (count n : ℕ) (l : List ℕ) → n ≤ count → up_to count n l ≡ l
-within count n l h = rw (le-leb n count h)
 
 -- ---- one after another
 

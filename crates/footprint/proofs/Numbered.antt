@@ -6,7 +6,7 @@ use mathlib.Core.Path.{◌≡◌, refl, sym, ◌∙◌, ap₂, subst}
 use mathlib.Core.Logic.{◌⊎◌, inl, inr, ◌≢◌}
 use mathlib.Core.Bool.{true, false, ◌||◌, false≢true}
 use mathlib.Core.List.{List, [], ◌∷◌}
-use borrow.Author.Tests.{eqb-true, ne_eqb}
+use borrow.Author.Tests.{eqb-true}
 use lib.Dec.{eqb}
 use Rattle.table.specs.declared.Action.{Action}
 use Rattle.table.specs.declared.Action.TheVariants.{Send, Receive, Lock, Unlock}
@@ -22,9 +22,6 @@ use Rattle.names.specs.Steps.{Stands}
 use Rattle.footprint.specs.Resources.{resource, unlock_group, numbered, posted_to, contested_by, Unnumbered}
 use Rattle.footprint.specs.Latest.{Posted, Passed}
 use Rattle.footprint.proofs.Passes.{small-post-as, passed-contest, passed-release}
-
-pub none-numbered : (kind : ℕ) → kind ≢ 3 → kind ≢ 4 → kind ≢ 7 → kind ≢ 8 → numbered kind ≡ false
-none-numbered kind p q r s = rw (ne_eqb kind 3 p, ne_eqb kind 4 q, ne_eqb kind 7 r, ne_eqb kind 8 s)
 
 abbrev OneOfFour : ℕ → Type 0
 OneOfFour kind = (kind ≡ 3) ⊎ ((kind ≡ 4) ⊎ ((kind ≡ 7) ⊎ (kind ≡ 8)))

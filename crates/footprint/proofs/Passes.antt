@@ -9,11 +9,11 @@ use Rattle.table.specs.declared.Action.{Action}
 use Rattle.table.specs.Decode.{action_of}
 use Rattle.table.specs.Promise.{WellFormed}
 use Rattle.model.specs.Site.{name}
-use Rattle.model.specs.Views.{Post, silent, Look, blind, posts, looks}
+use Rattle.model.specs.Views.{Post, Look, blind, posts, looks}
 use Rattle.model.specs.Pair.{post_at}
 use Rattle.names.specs.Steps.{Stands}
 use Rattle.footprint.specs.Resources.{posted_to, contested_by, looked_at, SmallPost}
-use Rattle.footprint.specs.Latest.{latest_of, raised, Looked, Passed}
+use Rattle.footprint.specs.Latest.{latest_of, raised, Passed}
 use Rattle.footprint.proofs.Ranges.{LookStands, small-post, look-stands}
 
 module _ {table : List ℕ} {a k : ℕ} {y : Action} where
@@ -45,16 +45,6 @@ module _ {table : List ℕ} {a k : ℕ} {y : Action} where
           posts-raised = q ∙ sym (ap (λ (x : Post). raised place (posted_to x) before) post);
           looks-raised = r ∙ sym (ap (λ (x : Look). raised place (looked_at (post_at table a) x) sights) look);
         }
-
-  -- it neither posts nor looks
-  pub passed-nothing : {place : ℕ} {before sights : List ℕ} → action_of table a k ≡ y → posts y ≡ silent → looks y ≡ blind
-      → Passed table (name a k) place before sights before sights 0
-  passed-nothing e f g = passed-as e silent blind f g refl refl refl
-
-  -- it looks
-  pub passed-look : {place met : ℕ} {before sights sights' : List ℕ} → action_of table a k ≡ y → posts y ≡ silent
-      → Looked (looked_at (post_at table a) (looks y)) place before sights sights' met → Passed table (name a k) place before sights before sights' met
-  passed-look e f seen = passed-as e silent (looks y) f refl (seen.met ∙ omega arith) refl seen.looks-raised
 
   -- it posts
   module _ {place met r : ℕ} {before after sights : List ℕ} (e : action_of table a k ≡ y) (g : looks y ≡ blind) (f : posted_to (posts y) ≡ r ∷ [])

@@ -1,14 +1,13 @@
 -- The route's turns: the invariant of the loop, from its begin to its end.
 -- Assumes nothing.
 use Prim.Native.Nat.{ℕ, suc, ◌+◌, ◌-◌, ◌<◌, ◌≤◌}
-use native.Mathlib.Nat.{le_antisymm}
 use native.Mathlib.Numerals.{add-one}
 use native.Mathlib.Omega.{arith}
 use mathlib.Core.Path.{◌≡◌, refl, ◌∙◌, ap, sym, subst}
 use mathlib.Core.Bool.{true}
-use mathlib.Core.List.{List, [], ◌∷◌, ◌++◌, map, append_assoc, append-nil, map-append}
+use mathlib.Core.List.{List, [], ◌∷◌, ◌++◌, map, append_assoc, map-append}
 use lib.ListN.{length, get_or, take, drop, length-map, length-append, length-drop, take-append-drop}
-use lib.Seq.{length-take-le, get_or-take, drop-length}
+use lib.Seq.{length-take-le, get_or-take}
 use Rattle.trace.specs.Machine.{Name}
 use Rattle.trace.specs.Order.{mem}
 use Rattle.trace.specs.Route.{place, remove, pull, route_from}
@@ -64,15 +63,6 @@ module _ {first second : List ℕ} {m : ℕ} {positions : List ℕ} (r : Routabl
     pub keeps-length : length now ≡ length positions
     keeps-length = written-length positions t.written now written-room t.wrote.1
 
-    -- the last turn is over
-    pub ends : m ≤ b → Wrote positions (route_in first second m) now n
-    ends h =
-        let none : names_from b (take m second) ≡ [] =
-        ap (λ (k : ℕ). names_from k (take m second)) (le_antisymm t.most h ∙ sym taken-long) ∙ ap (map name_of) (drop-length (take m second)) in
-        let all : route_in first second m ≡ t.written =
-        t.whole ∙ ap (λ (v : List Name). t.written ++ route_from b t.names v) none ∙ append-nil t.written in
-        subst (λ (s : List ℕ). Wrote positions s now n) (sym all) t.wrote
-
     module _ (h : b < m) where
       y : ℕ
       y = get_or second b 0
@@ -124,9 +114,6 @@ module _ {first second : List ℕ} {m : ℕ} {positions : List ℕ} (r : Routabl
         pub fits : n + way ≤ length now
         fits =
             omega (arith, simp length-append at (ap length whole-next), pull-length b way, r.room, keeps-length, t.wrote.0)
-
-        pub sums : {k : ℕ} → k ≡ length (pull b way) → n + k ≤ length positions
-        sums e = omega (arith, fits, pull-length b way, keeps-length)
 
         pub room : way ≤ length (rest n now)
         room = rest-room n way now fits
