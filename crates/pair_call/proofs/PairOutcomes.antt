@@ -1,32 +1,16 @@
 -- The outcome of the pair call by what is known of its checks: refused, a name that is not in the table, or the verdict.
 -- Assumes nothing.
-use mathlib.Core.Path.{◌≡◌, refl, ◌∙◌, ap, sym}
+use mathlib.Core.Path.{◌≡◌, ◌∙◌, ap, sym}
 use mathlib.Core.Bool.{Bool, true, false, ◌&&◌, cond}
 use mathlib.Core.List.{List}
 use Prim.Native.Nat.{ℕ}
-use Rattle.table.specs.declared.Reading.{Reading}
-use Rattle.table.specs.declared.Reading.TheVariants.{Valid, Short, Edition, Counts, Directory, Length, Kind, Range, Listed, Unused}
-use Rattle.table.specs.Outcome.{Outcome, accepted, refused, number_of, position_of, demand}
-use Rattle.table.specs.Answer.{outcome}
+use Rattle.table.specs.Outcome.{Outcome, accepted, refused, demand}
 use Rattle.table.specs.Read.{read_of}
 use Rattle.trace.specs.Machine.{Name}
 use Rattle.model.specs.Pair.{depends}
 use Rattle.model.specs.Calls.{gives, refuses, answer, in_table, independent, dependent, pair_checks, pair_of}
 use Rattle.model.proofs.Checks.{answer-given}
 use Rattle.table.proofs.Checks.{then-refused, then-accepted}
-
--- a reading that is not `Valid` has a number and a position
-pub refusing : (r : Reading) → (r ≡ Valid → ⊥) → outcome r ≡ refused (number_of (outcome r)) (position_of (outcome r))
-refusing Valid h = absurd (h refl)
-refusing Short h = refl
-refusing Edition h = refl
-refusing Counts h = refl
-refusing Directory h = refl
-refusing Length h = refl
-refusing (Kind at) h = refl
-refusing (Range at) h = refl
-refusing (Listed at) h = refl
-refusing (Unused at) h = refl
 
 module _ (table : List ℕ) (x y : Name) where
   pub pair-refused : (n p : ℕ) → pair_checks table x y ≡ refused n p → refuses n p ≡ pair_of table x y

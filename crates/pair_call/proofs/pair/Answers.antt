@@ -4,7 +4,8 @@ use mathlib.Core.Path.{◌∙◌, ap, sym}
 use mathlib.Core.Bool.{true, false}
 use Rattle.table.specs.Answer.{outcome}
 use Rattle.model.specs.Site.{name}
-use Rattle.pair_call.proofs.PairOutcomes.{refusing, table-refused, no-first, no_second, pair-given}
+use Rattle.table.proofs.Readings.{refusing}
+use Rattle.pair_call.proofs.PairOutcomes.{table-refused, no-first, no_second, pair-given}
 use Rattle.pair_call.proofs.pair.Goals as goal
 
 pub returns-in_default : goal.returns-in_default
