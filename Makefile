@@ -91,8 +91,8 @@ lib:
 	@mkdir -p $(dir $(ARCHIVE))
 	@[ -f $(ARCHIVE) ] || echo 'proving and building the library: some minutes the first time' >&2
 	@(cd crates/order_ffi && rt lib) > target/lib.log 2>&1 || { cat target/lib.log; exit 1; }
-	@cmp -s crates/order_ffi/out/liborder_ffi.a target/lib.made || { cp crates/order_ffi/out/liborder_ffi.a target/lib.made && \
-	    objcopy --set-section-alignment '.text.*=64' target/lib.made $(ARCHIVE); }
+	@[ -f $(ARCHIVE) ] && cmp -s crates/order_ffi/out/liborder_ffi.a target/lib.made || \
+	    { objcopy --set-section-alignment '.text.*=64' crates/order_ffi/out/liborder_ffi.a $(ARCHIVE) && cp crates/order_ffi/out/liborder_ffi.a target/lib.made; }
 
 program:
 	@mkdir -p $(dir $(TURNS))

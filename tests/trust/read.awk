@@ -21,7 +21,6 @@ function words(text) { gsub(/[^A-Za-z0-9'_-]/, " ", text); return " " text " " }
 
 # Whether a text has a name; of an operator, one of its parts.
 function mentions(text, name,    part, n, k) {
-    if (name == "*") return 1
     if (name !~ /[^A-Za-z0-9'_-]/) return index(words(text), " " name " ") > 0
     n = split(name, part, "◌")
     if (n < 2) return name ~ /[^A-Za-z0-9'_-]/ && index(text, name)
@@ -31,13 +30,13 @@ function mentions(text, name,    part, n, k) {
 
 # ---- imports of a source file
 
-# A name that a source file imports; "*" is one that every contract has.
+# A name that a source file imports.
 function bind(name, path, place,    n) {
     n = ++binds[FILENAME]
     bound_name[FILENAME, n] = name; bound_path[FILENAME, n] = path; bound_at[FILENAME, n] = place
 }
 
-# `ghost use PATH.{a, b as c};` or `ghost use PATH as c;`
+# `ghost use PATH.{a, b as c};`; of `ghost use PATH as c;` a contract would name things by a path
 function bind_all(text,    path, list, names, n, k, place) {
     place = place_of(text)
     sub(/^[ \t]*ghost use[ \t]+/, "", text); sub(/[ \t]*;.*/, "", text)
@@ -46,7 +45,8 @@ function bind_all(text,    path, list, names, n, k, place) {
     sub(/\.$/, "", path)
     if (is_library(path)) return
     if (path !~ /^Rattle\./) { file_fault("an import of unknown origin: " place); return }
-    n = split(list ~ /[^ \t]/ ? list : "*", names, ",")
+    if (text !~ /\{/) { file_fault("an import that is not followed: " place); return }
+    n = split(list, names, ",")
     for (k = 1; k <= n; k++) {
         sub(/.*[ \t]as[ \t]/, "", names[k]); gsub(/[ \t]/, "", names[k])
         if (names[k] != "") bind(names[k], path, place)
