@@ -12,7 +12,7 @@ import sys
 from spelling import WORD, files, snake
 
 
-DASHED = re.compile(r"(?<![\w./'-])[a-z][a-z0-9]*(?:-[a-z0-9]+)+(?![\w./'-])")
+DASHED = re.compile(r"(?<=`)[a-z][a-z0-9]*(?:-[a-z0-9]+)+(?=`)")
 
 
 def main(pages):
