@@ -1,3 +1,2 @@
 -- Reading by stages.
 pub mod Stages
-pub mod Refusals

@@ -57,10 +57,7 @@ fn fetch(rt: &HostRuntime, path: &str, buf: &mut [u8]) -> Came
     ensures { result.count ≤ length buf.new }
 {
     match File::open(rt, path) {
-        Ok(file) => {
-            let mut file = file;
-            fill(rt, path, &mut file, buf)
-        }
+        Ok(mut file) => fill(rt, path, &mut file, buf),
         Err(error) => unopened(rt, path, &error),
     }
 }

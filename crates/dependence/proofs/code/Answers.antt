@@ -7,5 +7,4 @@ use Rattle.dependence.proofs.code.Goals as goal
 pub returns : goal.returns
 unfolding code_of
 returns c =
-    let s = c in
-    (rw (straight s.args.i s.args.j s.requires.0 s.requires.1), rw (turned s.args.i s.args.j s.requires.0 s.requires.1))
+    (rw (straight c.args.i c.args.j c.requires.0 c.requires.1), rw (turned c.args.i c.args.j c.requires.0 c.requires.1))

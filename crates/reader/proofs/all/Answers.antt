@@ -7,7 +7,7 @@ use borrow.Author.Rules.{rules}
 use Rattle.table.specs.Outcome.{each}
 use Rattle.table.specs.Read.{actor_of, check_of}
 use Rattle.table.proofs.Checks.{each-begin, each-go, each-end}
-use Rattle.reader.proofs.Refusals.{each-refuses}
+use Rattle.table.proofs.Readings.{each-reads}
 use Rattle.reader.proofs.all.Goals as goal
 
 pub loop-a-init : goal.loop-a-init
@@ -28,7 +28,7 @@ returns-in_default c =
     let l = c.loop-a in
     sym
     (l.invariant.1
-    ∙ each-refuses (actor_of a.t.now) a.actors l.a c.loop-a-test.true
+    ∙ each-reads (actor_of a.t.now) a.actors l.a c.loop-a-test.true
     c.own-r.result (c.own-r.ensures ∙ ap₂ (λ (first count : ℕ). each (check_of a.t.now first) count 0)
     c.word-first.ensures.0 c.word-count.ensures.0)
     c.in_default.not-Valid)

@@ -5,7 +5,7 @@ use native.Mathlib.Omega.{arith}
 use borrow.Author.Rules.{rules}
 use Rattle.table.specs.Read.{check_of}
 use Rattle.table.proofs.Checks.{each-begin, each-go, each-end}
-use Rattle.reader.proofs.Refusals.{each-refuses}
+use Rattle.table.proofs.Readings.{each-reads}
 use Rattle.reader.proofs.own.Goals as goal
 
 pub loop-k-init : goal.loop-k-init
@@ -24,7 +24,7 @@ returns-in_default c =
     let l = c.loop-k in
     sym
     (l.invariant.1
-    ∙ each-refuses (check_of a.t.now a.first) a.count l.k c.loop-k-test.true c.check-r.result c.check-r.ensures c.in_default.not-Valid)
+    ∙ each-reads (check_of a.t.now a.first) a.count l.k c.loop-k-test.true c.check-r.result c.check-r.ensures c.in_default.not-Valid)
 
 pub loop-k-preserved : goal.loop-k-preserved
 loop-k-preserved c =
