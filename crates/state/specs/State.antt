@@ -1,6 +1,6 @@
 -- The state in arrays, and the site of the model that the arrays hold.
 -- Assumes nothing: these are definitions.
-use Rattle.std.specs.Prelude.{ℕ, ◌+◌, ◌-◌, ◌*◌, ◌/◌, ◌%◌, ◌^◌, ◌<◌, ◌≤◌, ◌≡◌, cond, List, [], map, eqb, ltb, length, get_or, take, drop, replicate}
+use Rattle.std.specs.Prelude.{ℕ, ◌+◌, ◌-◌, ◌*◌, ◌/◌, ◌%◌, ◌^◌, ◌<◌, ◌≤◌, ◌≡◌, ⊤, cond, Result, Ok, Err, List, [], map, eqb, ltb, length, get_or, take, drop, replicate}
 use Rattle.table.specs.declared.Action.{Action}
 use Rattle.table.specs.Decode.{action_of}
 use Rattle.trace.specs.Machine.{Name}
@@ -8,8 +8,8 @@ use Rattle.model.specs.Site.{Actor as Record, Side, sends, receives, Port, Comm,
 use Rattle.model.specs.Step as Step
 use Rattle.names.specs.InByte.{name_of}
 use Rattle.state.specs.declared.Actor.{Actor}
-use Rattle.state.specs.declared.NextStep.{NextStep}
-use Rattle.state.specs.declared.NextStep.TheVariants as case
+use Rattle.state.specs.declared.Hold.{Hold}
+use Rattle.state.specs.declared.Hold.TheVariants.{Waits, Over}
 
 -- a communication in one number: 0 unposted; 1 + 1024 · value pending; 2 + 4 · partner + 1024 · value done
 abbrev pub comm_of : ℕ → Comm
@@ -129,7 +129,7 @@ abbrev pub next_of : List ℕ → ℕ → Actor → Action
 next_of table a r = action_of table a r.position
 
 -- what the actor's next step is
-abbrev pub step_as : NextStep → Step.NextStep
-step_as case.Taken = Step.taken
-step_as case.Waits = Step.waiting
-step_as case.Over = Step.over
+abbrev pub step_as : Result ⊤ Hold → Step.NextStep
+step_as (Ok taken) = Step.taken
+step_as (Err Waits) = Step.waiting
+step_as (Err Over) = Step.over
