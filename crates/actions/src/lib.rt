@@ -65,9 +65,6 @@ fn none() -> Numbers
 {
     Numbers {
         count: 0,
-        n0: 0,
-        n1: 0,
-        n2: 0,
-        n3: 0,
+        all: [0; 4],
     }
 }
