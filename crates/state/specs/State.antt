@@ -1,6 +1,6 @@
 -- The state in arrays, and the site of the model that the arrays hold.
 -- Assumes nothing: these are definitions.
-use Rattle.std.specs.Prelude.{ℕ, ◌+◌, ◌-◌, ◌*◌, ◌/◌, ◌%◌, ◌^◌, ◌<◌, ◌≤◌, ◌≡◌, ⊤, cond, Result, Ok, Err, List, [], map, eqb, ltb, length, get_or, take, drop, replicate}
+use Rattle.std.specs.Prelude.{ℕ, ◌+◌, ◌-◌, ◌*◌, ◌/◌, ◌%◌, ◌^◌, ◌<◌, ◌≤◌, ◌≡◌, ⊤, cond, Result, Ok, Err, List, [], map, eqb, ltb, length, get_or, take, drop, replicate, refl}
 use Rattle.table.specs.declared.Action.{Action}
 use Rattle.table.specs.Decode.{action_of}
 use Rattle.trace.specs.Machine.{Name}
@@ -72,7 +72,7 @@ journal_of journal = map entry_of (take (number_noted journal) (drop 1 journal))
 
 -- the actors' records
 abbrev pub fresh_actor : Actor
-fresh_actor = record { position = 0; cells = replicate 8 0 }
+fresh_actor = record { position = 0; cells = replicate 8 0; eight = refl }
 
 abbrev pub record_of : Actor → Record
 record_of r = record { position = r.position; cells = r.cells }
@@ -115,10 +115,6 @@ abbrev pub Positions : List Actor → Type 0
 Positions actors = (a : ℕ) → (records_of actors a).position < 256
 
 -- ---- one actor's part
-
--- an actor's record has its eight cells
-abbrev pub EightCells : Actor → Type 0
-EightCells r = length r.cells ≡ 8
 
 -- the site as a step of one actor sees it: the others' records and the journal play no part
 abbrev pub seen_from : Actor → Mail → (ℕ → List Queued) → Site

@@ -5,17 +5,19 @@ ghost use Rattle.std.specs.Prelude.{◌≡◌, cond, ◌+◌, ◌<◌, ◌≤◌
 ghost use Rattle.table.specs.declared.Action.TheVariants.{Add};
 ghost use Rattle.model.specs.Views.{total, largest, runs_over};
 ghost use Rattle.model.specs.Step.{taken, over};
-ghost use Rattle.state.specs.State.{fresh_actor, step_as};
 
 // An actor's record: its eight cells, and the number of its next action.
 #[derive(Clone, Copy)]
 pub struct Actor {
     pub cells: [u32; 8],
     pub position: usize,
+    pub ghost eight: { length cells ≡ 8 },
 }
 
 // The local steps: each takes the record and hands it back.
 impl Actor {
+    ghost use Rattle.state.specs.State.{fresh_actor, step_as};
+
     // At position 0, with all cells 0.
     pub fn fresh() -> Self
         ensures { result ≡ fresh_actor }
@@ -29,7 +31,7 @@ impl Actor {
     // Set, and the writing of a result or of a value that was picked up. Every cell is written, the others with what they hold: a store of
     // one cell, with the whole record read right after it, is slow.
     pub fn put(mut self, cell: usize, value: u32) -> Self
-        requires { (length self.cells ≡ 8) × (cell < 8) }
+        requires { (cell < 8) }
         ensures { (result.position ≡ self.position) × (result.cells ≡ set self.cells cell value) }
     {
         for (i, held) in self.cells.iter_mut().enumerate() {
@@ -40,7 +42,7 @@ impl Actor {
 
     // What an Add is as the next step: it runs over where its sum would pass the largest number that a cell holds.
     pub fn adding(self, cell: usize, other: usize) -> Result<(), Hold>
-        requires { (length self.cells ≡ 8) × (cell < 8) × (other < 8) }
+        requires { (cell < 8) × (other < 8) }
         ensures { step_as result ≡ cond (runs_over (Add cell other) self.cells) over taken }
     {
         match self.cells[cell].checked_add(self.cells[other]) {
@@ -51,7 +53,7 @@ impl Actor {
 
     // Add: the sum, which must not run over.
     pub fn add(self, cell: usize, other: usize) -> Self
-        requires { (length self.cells ≡ 8) × (cell < 8) × (other < 8) × (total (Add cell other) self.cells ≤ largest) }
+        requires { (cell < 8) × (other < 8) × (total (Add cell other) self.cells ≤ largest) }
         ensures { (result.position ≡ self.position) × (result.cells ≡ set self.cells cell (total (Add cell other) self.cells)) }
     {
         self.put(cell, self.cells[cell] + self.cells[other])
@@ -59,7 +61,7 @@ impl Actor {
 
     // Lesser: the smaller of the two.
     pub fn lesser(self, cell: usize, other: usize) -> Self
-        requires { (length self.cells ≡ 8) × (cell < 8) × (other < 8) }
+        requires { (cell < 8) × (other < 8) }
         ensures { (result.position ≡ self.position) × (result.cells ≡ set self.cells cell (min (get_or self.cells cell 0) (get_or self.cells other 0))) }
     {
         self.put(cell, self.cells[cell].min(self.cells[other]))
