@@ -34,7 +34,7 @@ impl Policy {
     {
         let old = self.x;
         let x = draw(old);
-        let rank = x / 65536 % u32::count_ones(mask);
+        let rank = x / 65536 % mask.count_ones();
         Turn {
             actor: ranked(mask, rank),
             policy: Policy { x },
@@ -46,14 +46,14 @@ impl Policy {
 fn draw(x: u32) -> u32
     ensures { result ≡ model_draw x }
 {
-    std::num::wrapping_add_u32(product(1664525, x), 1013904223)
+    product(1664525, x).wrapping_add(1013904223)
 }
 
 // The product modulo 2^32.
 fn product(x: u32, y: u32) -> u32
     ensures { result ≡ x * y % 2 ^ 32 }
 {
-    (x as u64 * y as u64 % 4294967296) as u32
+    (u64::from(x) * u64::from(y) % 4294967296) as u32
 }
 
 // The place of the one of a rank among the ones of a mask, both counted from 0, from the lowest up.
@@ -63,15 +63,14 @@ fn ranked(mask: u32, rank: u32) -> usize
 {
     let mut m = mask;
     let mut r = rank;
-    let mut a = 0;
-    while 0 < m {
+    for a in 0..32 {
         let b = m % 2;
         if r < b {
             return a;
         }
         r -= b;
-        m = m / 2;
-        a += 1;
+        m /= 2;
     }
-    a
+    // no turn of the loop comes so far
+    32
 }
