@@ -12,13 +12,6 @@ pub struct Policy {
     x: u32,
 }
 
-// A turn: the actor that is stepped, and the policy after it.
-#[derive(Clone, Copy)]
-pub struct Turn {
-    pub actor: usize,
-    pub policy: Policy,
-}
-
 impl Policy {
     // The drawn schedule of a seed.
     pub fn drawn(seed: u32) -> Self
@@ -27,18 +20,16 @@ impl Policy {
         Policy { x: seed }
     }
 
-    // The turn where the actors of a mask are ready, one at least.
-    pub fn turn(self, mask: u32) -> Turn
+    // The actor whose turn it is where those of a mask are ready, one at least.
+    pub fn turn(&mut self, mask: u32) -> usize
         requires { 0 < count_ones mask }
-        ensures { TurnRight self mask result }
+        ensures { TurnRight self.old mask result self.new }
     {
         let old = self.x;
         let x = draw(old);
+        self.x = x;
         let rank = x / 65536 % mask.count_ones();
-        Turn {
-            actor: ranked(mask, rank),
-            policy: Policy { x },
-        }
+        ranked(mask, rank)
     }
 }
 
