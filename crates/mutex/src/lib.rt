@@ -1,14 +1,11 @@
 // The mutexes' queues: Lock joins a queue's end or adds to a depth, Unlock takes off a depth or leaves, and the first in the queue owns the mutex.
 #![tactic(auto)]
 
-ghost use Rattle.std.specs.Prelude.{◌≡◌, ◌+◌, ◌<◌, ◌≤◌, eqb, length, take, drop};
+ghost use Rattle.std.specs.Prelude.{◌≡◌, ◌%◌, ◌<◌, ◌≤◌, eqb, length, position};
 ghost use Rattle.model.specs.Site.{upd};
 ghost use Rattle.model.specs.Mutex.{owns, join as joined, leave as left};
 ghost use Rattle.model.specs.Depths.{depth_in};
 ghost use Rattle.state.specs.State.{queues_of, QueueRoom};
-ghost use Rattle.mutex.specs.Parts.{place_of, MovedUp};
-
-use table::bytes;
 
 // Lock: a queued actor's depth rises by 1; an actor that is not queued joins the end, with depth 1.
 pub fn join(queues: &mut [u8; 72], m: usize, a: usize)
@@ -20,16 +17,14 @@ pub fn join(queues: &mut [u8; 72], m: usize, a: usize)
 {
     let size = 9 * m;
     let at = size + 1;
-    let n = bytes::wide(queues[size]);
-    let actor = a as u8;
-    let i = place(queues, at, n, actor);
-    if i < n {
-        let b = queues[at + i];
-        queues[at + i] = b + 8;
-        return;
+    let n = usize::from(queues[size]);
+    match place(&queues[at..at + n], a) {
+        Some(i) => queues[at + i] += 8,
+        None => {
+            queues[at + n] = a as u8;
+            queues[size] += 1;
+        }
     }
-    queues[at + n] = actor;
-    queues[size] = (n + 1) as u8;
 }
 
 // Unlock: a queued actor's depth falls by 1, owner or not; at 0 it leaves, and those behind it move up.
@@ -41,18 +36,16 @@ pub fn leave(queues: &mut [u8; 72], m: usize, a: usize)
 {
     let size = 9 * m;
     let at = size + 1;
-    let n = bytes::wide(queues[size]);
-    let i = place(queues, at, n, a as u8);
-    if n <= i {
+    let n = usize::from(queues[size]);
+    let Some(i) = place(&queues[at..at + n], a) else {
+        return;
+    };
+    if 8 <= queues[at + i] {
+        queues[at + i] -= 8;
         return;
     }
-    let b = queues[at + i];
-    if 8 <= b {
-        queues[at + i] = b - 8;
-        return;
-    }
-    move_up(queues, at + i, n - 1 - i);
-    queues[size] = (n - 1) as u8;
+    queues.copy_within(at + i + 1..at + n, at + i);
+    queues[size] -= 1;
 }
 
 // Whether an actor owns a mutex: whether it is the first in its queue.
@@ -61,38 +54,12 @@ pub fn owner(queues: &[u8; 72], m: usize, a: usize) -> bool
     ensures { result ≡ owns (queues_of queues.now m) a }
 {
     let size = 9 * m;
-    if queues[size] == 0 {
-        return false;
-    }
-    let first = bytes::wide(queues[size + 1] % 8);
-    a == first
+    queues[size] != 0 && a == usize::from(queues[size + 1] % 8)
 }
 
-// The place of an actor's entry among the n from `at`; n where it has none.
-fn place(queues: &[u8; 72], at: usize, n: usize, actor: u8) -> usize
-    requires { (length queues.now ≡ 72) × (at + n ≤ 72) }
-    ensures { result ≡ place_of (take n (drop at queues.now)) actor }
+// The place of an actor's entry in a queue.
+fn place(entries: &[u8], a: usize) -> Option<usize>
+    ensures { result ≡ position (λ b. eqb a (b % 8)) entries.now }
 {
-    let mut i = 0;
-    while i < n {
-        let b = queues[at + i];
-        if actor == b % 8 {
-            return i;
-        }
-        i += 1;
-    }
-    i
-}
-
-// The n bytes behind `from` move up by one.
-fn move_up(queues: &mut [u8; 72], from: usize, n: usize)
-    requires { (length queues.old ≡ 72) × (from + n < 72) }
-    ensures { MovedUp queues.old queues.new from n }
-{
-    let mut i = 0;
-    while i < n {
-        let b = queues[from + i + 1];
-        queues[from + i] = b;
-        i += 1;
-    }
+    entries.iter().position(|b| a == usize::from(*b % 8))
 }
