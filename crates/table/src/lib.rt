@@ -2,9 +2,9 @@
 #![tactic(auto)]
 
 ghost use Rattle.std.specs.Prelude.{◌≡◌, ◌<◌, MatchResult};
-ghost use Rattle.table.specs.Outcome.{number_of, position_of};
+ghost use Rattle.table.specs.Outcome.{demand as demanded, number_of, position_of};
 ghost use Rattle.table.specs.Kinds.{kind_number, last_kind};
-ghost use Rattle.table.specs.Answer.{fault_of};
+ghost use Rattle.table.specs.Answer.{fault_of, outcome};
 
 pub mod access;
 pub mod bytes;
@@ -129,4 +129,11 @@ impl Fault {
             Fault::Kind(at) | Fault::Range(at) | Fault::Listed(at) | Fault::Unused(at) => at,
         }
     }
+}
+
+// One check: the condition, or the fault that it is where it fails.
+pub fn demand(condition: bool, fault: Fault) -> Result<(), Fault>
+    ensures { outcome result ≡ demanded condition (number_of (fault_of fault)) (position_of (fault_of fault)) }
+{
+    if condition { Ok(()) } else { Err(fault) }
 }

@@ -1,2 +1,0 @@
--- What the reader's functions promise one another.
-pub mod Parts
