@@ -4,13 +4,13 @@ use Prim.Native.Nat.{ℕ, ◌+◌, ◌*◌, ◌/◌, ◌%◌, ◌<◌, ◌≤◌
 use native.Mathlib.Omega.{arith}
 use mathlib.Core.Path.{◌≡◌, refl, ◌∙◌, ap}
 use mathlib.Core.List.{List, [], ◌∷◌, ◌++◌, map, map-append}
-use lib.ListN.{length, get_or, take, drop, set, length-set, length-drop, length-map}
+use lib.ListN.{length, take, drop, set, length-set, length-drop, length-map}
 use lib.Seq.{get_or-set_same, drop-set-lt, length-take-le}
 use Rattle.model.specs.Site.{Entry}
 use Rattle.model.specs.Report.{parts, entry_bytes}
 use Rattle.names.specs.InByte.{name_of}
 use Rattle.state.specs.State.{entry_of, number_noted, journal_of, JournalRoom}
-use Rattle.journal.specs.Parts.{six_bytes, entries_bytes}
+use Rattle.journal.specs.Parts.{six_bytes, six_at}
 use Rattle.writing.proofs.Stored.{stored}
 use Rattle.writing.proofs.Flat.{flat, flat-at}
 
@@ -58,12 +58,10 @@ module _ (journal : List ℕ) (name value : ℕ) (room : JournalRoom journal) (m
 
 -- ---- the bytes
 
-abbrev pub six_at : List ℕ → ℕ → List ℕ
-six_at journal i = six_bytes (get_or journal (1 + i) 0)
-
 entries-flat : (l : List ℕ) → flat six_bytes l ≡ entry_bytes (map entry_of l)
 entries-flat [] = refl
 entries-flat (x ∷ l) = ap (λ (r : List ℕ). six_bytes x ++ r) (entries-flat l)
 
-pub entries_at : (journal : List ℕ) (n : ℕ) → 1 + n ≤ length journal → parts (six_at journal) n 0 ≡ entries_bytes journal n
-entries_at journal n h = flat-at six_bytes journal 1 n h ∙ entries-flat (take n (drop 1 journal))
+pub entries_at : (journal : List ℕ) → JournalRoom journal → parts (six_at journal) (number_noted journal) 0 ≡ entry_bytes (journal_of journal)
+entries_at journal room =
+    flat-at six_bytes journal 1 (number_noted journal) (omega (arith, room.long, room.bounded)) ∙ entries-flat (take (number_noted journal) (drop 1 journal))
