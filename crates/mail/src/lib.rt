@@ -8,8 +8,6 @@ ghost use Rattle.names.specs.InByte.{name_of};
 ghost use Rattle.state.specs.State.{comm_of, head_in, tail_in, MailRoom};
 ghost use Rattle.mail.specs.Parts.{sends_at, receives_at, pending_code, paired, oldest_in, appended, head_on, tail_on, Posted};
 
-use table::bytes;
-
 // A Send of a value by the step `me` to mailbox m.
 pub fn send(
     comms: &mut [u64; 256],
@@ -82,7 +80,7 @@ fn take_oldest(log: &[u8; 4096], ends: &mut [usize; 32], n: usize) -> usize
 {
     let at = ends[2 * n];
     ends[2 * n] = at + 1;
-    bytes::wide(log[256 * n + at])
+    usize::from(log[256 * n + at])
 }
 
 // A step and another become a pair, which carries a value.
