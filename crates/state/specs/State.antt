@@ -124,8 +124,8 @@ seen_from r mail queue = record { actor = λ a. record_of r; mail = mail; queue 
 abbrev pub next_of : List ℕ → ℕ → Actor → Action
 next_of table a r = action_of table a r.position
 
--- what the actor's next step is
-abbrev pub step_as : Result ⊤ Hold → Step.NextStep
-step_as (Ok taken) = Step.taken
+-- what an actor's next step is, whatever is handed back where it is taken
+abbrev pub step_as : {T : Type 0} → Result T Hold → Step.NextStep
+step_as (Ok value) = Step.taken
 step_as (Err Waits) = Step.waiting
 step_as (Err Over) = Step.over
