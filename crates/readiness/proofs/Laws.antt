@@ -1,16 +1,20 @@
 -- Readiness over the arrays: one actor's look, the mask from the last actor down, and whether everyone is finished.
 -- Assumes nothing.
-use mathlib.Core.Path.{◌≡◌, refl, ◌∙◌, ap, ap₂, sym}
-use mathlib.Core.Bool.{Bool, true, false, ◌&&◌}
-use mathlib.Core.List.{List}
-use Prim.Native.Nat.{ℕ, suc, ◌+◌, ◌-◌, ◌*◌, ◌%◌, ◌^◌, ◌<◌, ◌≤◌}
+use mathlib.Core.Path.{◌≡◌, refl, ◌∙◌, ap, ap₂, sym, subst}
+use mathlib.Core.Bool.{Bool, true, false, not, ◌&&◌}
+use mathlib.Core.Logic.{◌⊎◌, inl, inr}
+use mathlib.Core.List.{List, [], ◌∷◌}
+use Prim.Native.Nat.{ℕ, zero, suc, ◌+◌, ◌-◌, ◌*◌, ◌%◌, ◌^◌, ◌<◌, ◌≤◌}
 use native.Mathlib.Nat.{zero-div}
 use native.Mathlib.Numerals.{add-one}
 use native.Mathlib.Omega.{arith}
-use borrow.Author.Tests.{lt-ltb, le-ltb}
-use lib.Dec.{ltb}
-use lib.ListN.{get_or}
+use borrow.Author.Tests.{lt-ltb, le-ltb, le-leb, lt-leb, ltb-true, ltb-false}
+use lib.Dec.{leb, ltb}
+use lib.ListN.{length, get_or, take}
+use Rattle.std.specs.List.{list_all, enumerate_from}
+use Rattle.trace.proofs.Bools.{which}
 use lib.Pow.{pow_mono}
+use mir.Val.{bool_byte}
 use lib.Count.{ones}
 use Rattle.table.specs.declared.Action.{Action}
 use Rattle.table.specs.Format.{actors_of, count_of}
@@ -19,10 +23,11 @@ use Rattle.model.specs.Step.{NextStep, is_taken, step_of, next_step, ready}
 use Rattle.model.specs.Ready.{bit_of, bit, mask_of, all, ending_of, ready_mask, ready_count, ready_answer}
 use Rattle.model.proofs.ReadyMask.{mask-small, mask-right}
 use Rattle.state.specs.State.{mail_of, queues_of, fresh_actor, next_of, seen_from}
-use Rattle.readiness.specs.Parts.{site_with, Known, step_from, looks_ready, everyone_finished}
+use Rattle.readiness.specs.Parts.{Answerable, site_with, Known, step_from, looks_ready, everyone_finished}
 use Rattle.answers.specs.Answers.{ending_as, readiness_of}
 use Rattle.state.specs.declared.Actor.{Actor}
 use Rattle.answers.specs.declared.Readiness.{Readiness}
+use Rattle.state.proofs.Within.{get_or-within}
 use Rattle.look.proofs.Sees.{step-parts}
 
 -- ---- one actor
@@ -85,21 +90,76 @@ pub mask_end : (f : ℕ → Bool) (n a : ℕ) → a ≤ 0 → mask_of f (n - a) 
 mask_end f n a h = let z : a ≡ 0 = omega arith in let m : n - a ≡ n = omega arith in ap₂ (mask_of f) m z
 
 -- seven actors' bits leave room for one more
-pub mask-room : (f : ℕ → Bool) (c k : ℕ) → c ≤ 7 → mask_of f c k < 128
+mask-room : (f : ℕ → Bool) (c k : ℕ) → c ≤ 7 → mask_of f c k < 128
 mask-room f c k h = let small : mask_of f c k < 2 ^ c = mask-small f c k in let most : 2 ^ c ≤ 128 = pow_mono h in omega arith
+
+-- a test as a number
+pub as_bit : (b : Bool) → bool_byte b ≡ bit b
+as_bit true = refl
+as_bit false = refl
+
+pub bit_most : (b : Bool) → bit b ≤ 1
+bit_most true = omega arith
+bit_most false = omega arith
+
+module _ {table : List ℕ} {actors : List Actor} {comms queues : List ℕ} (A : Answerable table actors comms queues) {n : ℕ} (counted : n ≡ actors_of table) where
+  -- m has the bits of the actors from i on
+  abbrev Bits : ℕ → ℕ → Type 0
+  Bits m i = (log ends journal : List ℕ) → m ≡ mask_of (ready table (site_with actors comms queues log ends journal)) (n - i) i
+
+  -- before the last bit there is room for one more
+  pub room-left : {m i : ℕ} → Bits m i → 0 < i → i ≤ n → m < 128
+  room-left {m} {i} bits some low =
+      let few : n - i ≤ 7 = omega (arith, A.accepted.actors-most) in
+      rw (bits [] [] []) (mask-room (ready table (site_with actors comms queues [] [] [])) (n - i) i few)
+
+  pub in_table : {i : ℕ} → 0 < i → i ≤ n → i - 1 < actors_of table
+  in_table some low = omega arith
+
+  -- what the record at a place tells of its actor
+  pub looked : {a : ℕ} {b : Bool} (r : Actor) → a < actors_of table
+      → ((log ends : List ℕ) → b ≡ looks_ready table a (get_or actors a r) comms queues log ends)
+      → (log ends journal : List ℕ) → b ≡ ready table (site_with actors comms queues log ends journal) a
+  looked {a} {b} r there looks log ends journal =
+      looks log ends
+      ∙ ap (λ (q : Actor). looks_ready table a q comms queues log ends)
+      (get_or-within actors a r fresh_actor (omega (arith, A.accepted.actors-most, A.actors-long)))
+      ∙ sym (ready-looks table actors comms queues log ends journal a there)
+
+  -- an actor's bit below those that stand
+  pub one_more : {m i b : ℕ} {is : Bool} → Bits m i → 0 < i → i ≤ n → b ≡ bit is
+      → ((log ends journal : List ℕ) → is ≡ ready table (site_with actors comms queues log ends journal) (i - 1)) → Bits (b + 2 * m) (i - 1)
+  one_more {m} {i} bits some low value right log ends journal =
+      ap₂ (λ (y z : ℕ). y + 2 * z) (value ∙ ap bit (right log ends journal)) (bits log ends journal)
+      ∙ sym (mask_next (ready table (site_with actors comms queues log ends journal)) n i some low)
 
 -- ---- everyone
 
-pub all-begin : (f : ℕ → Bool) (n : ℕ) → all f n 0 ≡ all f (n - 0) 0
-all-begin f n = let e : n ≡ n - 0 = omega arith in ap (λ (c : ℕ). all f c 0) e
+not_below : (m n : ℕ) → leb n m ≡ not (ltb m n)
+not_below m n = go (which (ltb m n))
+  where
+    go : (ltb m n ≡ true) ⊎ (ltb m n ≡ false) → leb n m ≡ not (ltb m n)
+    go (inl t) = rw (t, lt-leb n m (ltb-true m n t))
+    go (inr f) = rw (f, le-leb n m (ltb-false m n f))
 
-pub all-next : (f : ℕ → Bool) (n a : ℕ) → a < n → all f (n - a) a ≡ (f a && all f (n - (a + 1)) (a + 1))
-all-next f n a h =
-    let e : n - a ≡ suc (n - (a + 1)) = omega arith in
-    ap (λ (c : ℕ). all f c a) e ∙ ap (λ (k : ℕ). f a && all f (n - (a + 1)) k) (sym (add-one a))
+-- a test of each element with its number is that of the numbers
+each_numbered : {A : Type 0} (g : ℕ × A → Bool) (f : ℕ → Bool) (d : A) (l : List A) (n from : ℕ) → n ≤ length l
+    → ((i : ℕ) → g (from + i, get_or l i d) ≡ f (from + i)) → list_all g (enumerate_from from (take n l)) ≡ all f n from
+each_numbered g f d l zero from h each = refl
+each_numbered g f d [] (suc n) from h each = absurd (omega arith)
+each_numbered g f d (x ∷ l) (suc n) from h each =
+    let here : from + 0 ≡ from = omega arith in
+    let first : g (from, x) ≡ f from = subst (λ (k : ℕ). g (k, x) ≡ f k) here (each 0) in
+    ap₂ (λ (b c : Bool). b && c) first
+    (ap (λ (k : ℕ). list_all g (enumerate_from k (take n l))) (add-one from)
+    ∙ each_numbered g f d l n (suc from) (omega arith)
+    (λ i. let up : from + suc i ≡ suc from + i = omega arith in subst (λ (k : ℕ). g (k, get_or l i d) ≡ f k) up (each (suc i))))
 
-pub all_end : (f : ℕ → Bool) (n a : ℕ) → n ≤ a → all f (n - a) a ≡ true
-all_end f n a h = let e : n - a ≡ 0 = omega arith in ap (λ (c : ℕ). all f c a) e
+pub everyone : (table : List ℕ) (actors : List Actor) (n : ℕ) → n ≤ length actors
+    → list_all (λ (p : ℕ × Actor). leb (count_of table p.0) p.1.position) (enumerate_from 0 (take n actors)) ≡ everyone_finished table n actors
+everyone table actors n h =
+    each_numbered (λ (p : ℕ × Actor). leb (count_of table p.0) p.1.position) (λ a. not (ltb (get_or actors a fresh_actor).position (count_of table a))) fresh_actor actors n 0 h
+    (λ i. let k : 0 + i ≡ i = omega arith in rw k (not_below (get_or actors i fresh_actor).position (count_of table i)))
 
 -- ---- the answer
 

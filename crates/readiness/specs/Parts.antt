@@ -6,7 +6,7 @@ use Rattle.table.specs.Promise.{WellFormed}
 use Rattle.model.specs.Site.{Site}
 use Rattle.model.specs.Step.{NextStep, is_taken, step_of, ready}
 use Rattle.model.specs.Ready as Model
-use Rattle.state.specs.State.{mail_of, queues_of, site_of, fresh_actor, CommsRoom, QueueRoom, EightCells, next_of, seen_from}
+use Rattle.state.specs.State.{mail_of, queues_of, site_of, fresh_actor, CommsRoom, QueueRoom, next_of, seen_from}
 use Rattle.state.specs.declared.Actor.{Actor}
 
 -- the state, with the ports' logs and the journal, in which readiness does not look
@@ -17,14 +17,12 @@ site_with actors comms queues log ends journal = site_of actors comms log ends q
 pub record Looked (table : List ℕ) (a : ℕ) (r : Actor) (comms queues : List ℕ) : Type 0 where
   pub accepted : WellFormed table
   pub actor : a < actors_of table
-  pub eight : EightCells r
   pub comms-room : CommsRoom comms
   pub queue-room : QueueRoom queues
 
 pub record Answerable (table : List ℕ) (actors : List Actor) (comms queues : List ℕ) : Type 0 where
   pub accepted : WellFormed table
   pub actors-long : length actors ≡ 8
-  pub eight : (a : ℕ) → EightCells (get_or actors a fresh_actor)
   pub comms-room : CommsRoom comms
   pub queue-room : QueueRoom queues
 

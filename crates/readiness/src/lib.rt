@@ -3,13 +3,13 @@
 
 ghost use Rattle.std.specs.Prelude.{◌≡◌, ◌≢◌, true, cond, ℕ, ◌+◌, ◌-◌, ◌^◌, ◌<◌, ◌≤◌, List, length};
 ghost use Rattle.table.specs.Format.{actors_of, count_of};
-ghost use Rattle.model.specs.Ready.{bit as as_bit, bit_of, ready_mask, ready_answer};
+ghost use Rattle.model.specs.Ready.{bit_of, ready_mask, ready_answer};
 ghost use Rattle.readiness.specs.Parts.{Answerable, Known, Looked, step_from, looks_ready, everyone_finished, site_with};
 ghost use Rattle.state.specs.State.{step_as};
 ghost use Rattle.answers.specs.Answers.{readiness_of};
 
 use answers::{Ending, Readiness};
-use state::{Actor, NextStep};
+use state::{Actor, Hold};
 use table::Action;
 
 // The number of actors that are ready is the number of ones in their mask.
@@ -20,25 +20,18 @@ pub fn answer(table: &[u8], actors: [Actor; 8], comms: &[u64; 256], queues: &[u8
 {
     let n = table::access::actors(table);
     let mask = ready_mask(table, n, 0, 0, actors, comms, queues);
-    let count = u32::count_ones(mask);
-    if all_finished(table, n, actors) {
-        return Readiness {
-            mask,
-            count,
-            ending: Ending::Finished,
-        };
-    }
-    if count == 0 {
-        return Readiness {
-            mask,
-            count,
-            ending: Ending::Stuck,
-        };
-    }
+    let count = mask.count_ones();
+    let ending = if all_finished(table, n, actors) {
+        Ending::Finished
+    } else if count == 0 {
+        Ending::Stuck
+    } else {
+        Ending::Going
+    };
     Readiness {
         mask,
         count,
-        ending: Ending::Going,
+        ending,
     }
 }
 
@@ -59,15 +52,9 @@ pub fn ready_mask(
         ≡ ready_mask table.now (site_with actors comms.now queues.now log ends journal) }
 {
     let mut m = 0;
-    let mut i = n;
-    while 0 < i {
-        i -= 1;
-        if is_known(known, a, i) {
-            m = 1 + 2 * m;
-        } else {
-            let r = actors[i];
-            m = bit(is_ready(table, i, r, comms, queues)) + 2 * m;
-        }
+    for i in (0..n).rev() {
+        let ready = is_known(known, a, i) || is_ready(table, i, actors[i], comms, queues);
+        m = u32::from(ready) + 2 * m;
     }
     m
 }
@@ -86,9 +73,10 @@ pub fn own_bit(
         ≡ cond (looks_ready table.now a r comms.now queues.now log ends) mask (mask - 2 ^ a) }
 {
     if is_ready(table, a, r, comms, queues) {
-        return mask;
+        mask
+    } else {
+        mask - (1 << a)
     }
-    mask - (1 << a)
 }
 
 // Whether a mask has actor i, where it is not actor a.
@@ -96,10 +84,7 @@ fn is_known(known: u32, a: usize, i: usize) -> bool
     requires { i < 8 }
     ensures { result ≡ true → (bit_of known i ≡ 1) × (i ≢ a) }
 {
-    if i == a {
-        return false;
-    }
-    (known >> i) % 2 == 1
+    i != a && (known >> i) % 2 == 1
 }
 
 // Whether an actor is ready: not finished, and its next step is taken.
@@ -108,16 +93,7 @@ fn is_ready(table: &[u8], a: usize, r: Actor, comms: &[u64; 256], queues: &[u8; 
     ensures { (log ends : List ℕ) → result
         ≡ looks_ready table.now a r comms.now queues.now log ends }
 {
-    let k = r.position;
-    if table::access::actions(table, a) <= k {
-        return false;
-    }
-    let next = next_step(table, a, r, comms, queues);
-    match next {
-        NextStep::Taken => true,
-        NextStep::Waits => false,
-        NextStep::Over => false,
-    }
+    r.position < table::access::actions(table, a) && next_step(table, a, r, comms, queues).is_ok()
 }
 
 // What the next step of an actor is that is not finished.
@@ -127,28 +103,17 @@ pub fn next_step(
     r: Actor,
     comms: &[u64; 256],
     queues: &[u8; 72],
-) -> NextStep
+) -> Result<(), Hold>
     requires { Looked table.now a r comms.now queues.now × (r.position < count_of table.now a) }
     ensures { (log ends : List ℕ) → step_as result
         ≡ step_from table.now a r comms.now queues.now log ends }
 {
-    let k = r.position;
-    let x = table::within::action(table, a, k);
-    match x {
+    match table::within::action(table, a, r.position) {
         Action::Add { cell, other } => r.adding(cell, other),
         Action::WaitAny { result: _, list } => look::awaited(look::communications(comms, a, list)),
         Action::MutexWait { result: _, list } => look::awaited(look::mutexes(queues, a, list)),
-        _ => NextStep::Taken,
+        _ => Ok(()),
     }
-}
-
-fn bit(b: bool) -> u32
-    ensures { (result ≡ as_bit b) × (result ≤ 1) }
-{
-    if b {
-        return 1;
-    }
-    0
 }
 
 // Whether every actor's position has come to its number of actions.
@@ -156,14 +121,9 @@ fn all_finished(table: &[u8], n: usize, actors: [Actor; 8]) -> bool
     requires { (n ≤ 8) × (length actors ≡ 8) }
     ensures { result ≡ everyone_finished table.now n actors }
 {
-    let mut a = 0;
-    while a < n {
-        let r = actors[a];
-        let k = r.position;
-        if k < table::access::actions(table, a) {
-            return false;
-        }
-        a += 1;
-    }
-    true
+    actors
+        .iter()
+        .take(n)
+        .enumerate()
+        .all(|(a, r)| table::access::actions(table, a) <= r.position)
 }
