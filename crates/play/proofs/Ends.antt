@@ -8,17 +8,16 @@ use native.Mathlib.Omega.{arith}
 use lib.Dec.{ltb, lit<}
 use lib.ListN.{length, get_or, take, drop, replicate, length-replicate}
 use lib.Seq.{take-length}
-use Rattle.table.specs.Outcome.{accepted as fine}
 use Rattle.table.specs.Promise.{WellFormed}
 use Rattle.trace.specs.Machine.{Name}
 use Rattle.trace.specs.Schedule.{accepted, names}
 use Rattle.model.specs.Site.{Port, unposted, initial}
-use Rattle.model.specs.Schedule.{machine, end_state, RefusalNumbers, check_schedule}
+use Rattle.model.specs.Schedule.{machine, end_state}
 use Rattle.model.proofs.Checks.{taken-checks}
 use Rattle.model.proofs.ReportBound.{entries-room}
 use Rattle.names.specs.InByte.{name_of}
 use Rattle.state.specs.State.{record_of, records_of, fresh_actor, comm_of, comms_of, waiting_of, queued_of, queues_of, entry_of, number_noted, journal_of, site_of, port_number}
-use Rattle.play.specs.Parts.{Empty, Ended}
+use Rattle.play.specs.Parts.{Empty, Through}
 use Rattle.state.specs.declared.Actor.{Actor}
 use Rattle.play.proofs.Playing.{Playing, Named}
 
@@ -79,7 +78,6 @@ start-empty table schedule log journal ok log-long journal-long none =
       taken = refl;
       index = omega arith;
       actors-long = length-replicate 8 fresh_actor;
-      eight = λ a. ap (λ (r : Actor). length r.cells) (get_or-alike 8 a fresh_actor) ∙ length-replicate {A = ℕ} 8 0;
       mail-room = record {
         comms-room = record {
           long = length-replicate {A = ℕ} 256 0;
@@ -118,20 +116,22 @@ module _ {table schedule comms log ends queues journal : List ℕ} {actors : Lis
   taken-all : accepted (machine table) initial schedule ≡ true
   taken-all = sym (ap (accepted (machine table) initial) whole) ∙ P.taken
 
-  pub checks-end : (n : RefusalNumbers) → fine ≡ check_schedule n table schedule
-  checks-end n = sym (taken-checks table n initial 0 schedule taken-all)
-
-  pub ended : {names' : List ℕ} → Named table schedule names' i → Ended table schedule comms log ends queues journal names' actors
-  ended {names'} N =
+  -- the schedule was played to its end
+  pub played-through : {names' : List ℕ} → Named table schedule names' i
+      → Through table schedule comms log ends queues journal names' (record { steps = i; actors = actors })
+  played-through {names'} N =
       record {
-        site = P.site ∙ ap (end_state table) whole;
-        actors-long = P.actors-long;
-        eight = P.eight;
-        mail-room = P.mail-room;
-        queue-room = P.queue-room;
-        journal-room = P.journal-room;
-        entries-most = entries-room table P.accepted-table schedule taken-all;
-        names-long = N.names-long;
-        names-right =
-            ap (λ (n : ℕ). map name_of (take n names')) (sym all) ∙ N.names-right ∙ ap (names (machine table) initial) whole;
+        checked = λ n. taken-checks table n initial 0 schedule taken-all;
+        counted = all;
+        ended = record {
+          site = P.site ∙ ap (end_state table) whole;
+          actors-long = P.actors-long;
+          mail-room = P.mail-room;
+          queue-room = P.queue-room;
+          journal-room = P.journal-room;
+          entries-most = entries-room table P.accepted-table schedule taken-all;
+          names-long = N.names-long;
+          names-right =
+              ap (λ (n : ℕ). map name_of (take n names')) (sym all) ∙ N.names-right ∙ ap (names (machine table) initial) whole;
+        };
       }

@@ -139,7 +139,6 @@ answerable P =
     record {
       accepted = P.accepted-table;
       actors-long = P.actors-long;
-      eight = P.eight;
       comms-room = P.mail-room.comms-room;
       queue-room = P.queue-room;
     }

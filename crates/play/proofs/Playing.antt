@@ -28,7 +28,7 @@ use Rattle.model.proofs.QueuedDepths.{join-own, depth-most, queued-locked}
 use Rattle.model.proofs.ReportBoundCounts.{how_many-most}
 use Rattle.model.proofs.ReportBoundLengths.{stepped-actor}
 use Rattle.names.specs.InByte.{name_of}
-use Rattle.state.specs.State.{record_of, records_of, fresh_actor, tail_in, site_of, MailRoom, QueueRoom, JournalRoom, EightCells}
+use Rattle.state.specs.State.{record_of, records_of, fresh_actor, tail_in, site_of, MailRoom, QueueRoom, JournalRoom}
 use Rattle.state.specs.declared.Actor.{Actor}
 
 -- the state after the first i entries
@@ -41,7 +41,6 @@ pub record Playing (table schedule comms log ends queues journal : List ℕ) (ac
   pub taken : accepted (machine table) initial (take i schedule) ≡ true
   pub index : i ≤ length schedule
   pub actors-long : length actors ≡ 8
-  pub eight : (a : ℕ) → EightCells (get_or actors a fresh_actor)
   pub mail-room : MailRoom comms log ends
   pub queue-room : QueueRoom queues
   pub journal-room : JournalRoom journal
