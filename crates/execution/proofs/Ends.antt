@@ -40,7 +40,6 @@ module _ {table schedule comms log ends queues journal names : List ℕ} {actors
       record {
         accepted = E.promise;
         actors-long = E.end.actors-long;
-        eight = E.end.eight;
         comms-room = E.end.mail-room.comms-room;
         queue-room = E.end.queue-room;
       }
