@@ -12,7 +12,8 @@ use Rattle.model.specs.Site.{upd, Port, opposite, done}
 use Rattle.model.specs.Mail.{pair_value, carried, pair, meet, meet_with}
 use Rattle.names.specs.InByte.{name_of}
 use Rattle.state.specs.State.{comm_of, comms_of, port_number, head_in, tail_in, waiting_of, mail_of, MailRoom}
-use Rattle.mail.specs.Parts.{pending_code, done_code, paired, oldest_in, appended, head_on, tail_on, Posted}
+use Rattle.std.specs.Prelude.{Option, Some, None, unwrap_or}
+use Rattle.mail.specs.Parts.{port_at, pending_code, done_code, paired, oldest_in, appended, head_on, tail_on, Posted}
 use Rattle.mail.proofs.Changes.{each_after}
 use Rattle.mail.proofs.Ends.{heads-kept, tails-kept, each-head, each_tail}
 use Rattle.mail.proofs.Comms.{joined, both-done, carried-at}
@@ -131,3 +132,24 @@ module _ (comms log ends : List ℕ) (room : MailRoom comms log ends) (me value 
             room = pair-room;
             grown = λ n. omega (arith, tails-kept ends other-number (head_in ends other-number + 1) n);
           })
+
+-- ---- a Send of a value, or else a Receive
+
+-- a port's number and the opposite port's
+pub record Numbers (m : ℕ) (sent : Option ℕ) (numbers : ℕ × ℕ) : Type 0 where
+  pub own : numbers.0 ≡ port_number (port_at m sent)
+  pub theirs : numbers.1 ≡ port_number (opposite (port_at m sent))
+  pub small : (numbers.0 < 16) × (numbers.1 < 16)
+
+pub sending : (m value : ℕ) (sent : Option ℕ) (numbers : ℕ × ℕ) → m < 8 → sent ≡ Some value → numbers ≡ (2 * m, 2 * m + 1) → Numbers m sent numbers
+sending m value sent numbers small s n = rw (s, n) (record { own = omega arith; theirs = omega arith; small = (omega arith, omega arith) })
+
+pub receiving : (m : ℕ) (sent : Option ℕ) (numbers : ℕ × ℕ) → m < 8 → sent ≡ None → numbers ≡ (2 * m + 1, 2 * m) → Numbers m sent numbers
+receiving m sent numbers small s n = rw (s, n) (record { own = omega arith; theirs = omega arith; small = (omega arith, omega arith) })
+
+-- the value of the pair that it makes
+pub pair_sent : (m value kept : ℕ) (sent : Option ℕ) (v : ℕ) → sent ≡ Some v → value ≡ v → value ≡ pair_value (port_at m sent).side (unwrap_or sent 0) kept
+pair_sent m value kept sent v s e = rw s e
+
+pub pair_kept : (m value kept : ℕ) (sent : Option ℕ) → sent ≡ None → value ≡ kept → value ≡ pair_value (port_at m sent).side (unwrap_or sent 0) kept
+pair_kept m value kept sent s e = rw s e

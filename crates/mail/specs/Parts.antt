@@ -1,6 +1,6 @@
 -- What the mail's functions do to the arrays, and what a post promises.
 -- Assumes nothing: these are definitions.
-use Rattle.std.specs.Prelude.{ℕ, ◌+◌, ◌*◌, ◌≤◌, ◌≡◌, List, get_or, set}
+use Rattle.std.specs.Prelude.{ℕ, ◌+◌, ◌*◌, ◌≤◌, ◌≡◌, List, get_or, set, Option, Some, None}
 use Rattle.trace.specs.Machine.{Name}
 use Rattle.model.specs.Site.{Port, sends, receives}
 use Rattle.model.specs.Mail.{meet}
@@ -12,6 +12,11 @@ sends_at m = record { mailbox = m; side = sends }
 
 abbrev pub receives_at : ℕ → Port
 receives_at m = record { mailbox = m; side = receives }
+
+-- the port of a Send of a value, or else of a Receive, at mailbox m
+abbrev pub port_at : ℕ → Option ℕ → Port
+port_at m (Some value) = sends_at m
+port_at m None = receives_at m
 
 -- the numbers that stand for a communication: pending with a value, and done with a partner and a value
 abbrev pub pending_code : ℕ → ℕ
