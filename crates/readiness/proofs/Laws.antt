@@ -8,7 +8,7 @@ use Prim.Native.Nat.{ℕ, zero, suc, ◌+◌, ◌-◌, ◌*◌, ◌%◌, ◌^◌
 use native.Mathlib.Nat.{zero-div}
 use native.Mathlib.Numerals.{add-one}
 use native.Mathlib.Omega.{arith}
-use borrow.Author.Tests.{lt-ltb, le-ltb, le-leb, lt-leb, ltb-true, ltb-false}
+use borrow.Author.Tests.{lt-ltb, le-leb, lt-leb, ltb-true, ltb-false}
 use lib.Dec.{leb, ltb}
 use lib.ListN.{length, get_or, take}
 use Rattle.std.specs.List.{list_all, enumerate_from}
@@ -16,10 +16,9 @@ use Rattle.trace.proofs.Bools.{which}
 use lib.Pow.{pow_mono}
 use mir.Val.{bool_byte}
 use lib.Count.{ones}
-use Rattle.table.specs.declared.Action.{Action}
 use Rattle.table.specs.Format.{actors_of, count_of}
 use Rattle.model.specs.Site.{Site}
-use Rattle.model.specs.Step.{NextStep, is_taken, step_of, next_step, ready}
+use Rattle.model.specs.Step.{NextStep, is_taken, next_step, ready}
 use Rattle.model.specs.Ready.{bit_of, bit, mask_of, all, ending_of, ready_mask, ready_count, ready_answer}
 use Rattle.model.proofs.ReadyMask.{mask-small, mask-right}
 use Rattle.state.specs.State.{mail_of, queues_of, fresh_actor, next_of, seen_from}
@@ -27,24 +26,10 @@ use Rattle.readiness.specs.Parts.{Answerable, site_with, Known, step_from, looks
 use Rattle.answers.specs.Answers.{ending_as, readiness_of}
 use Rattle.state.specs.declared.Actor.{Actor}
 use Rattle.answers.specs.declared.Readiness.{Readiness}
-use Rattle.state.proofs.Within.{get_or-within}
+use Rattle.std.proofs.lemmas.List.{get_or_default}
 use Rattle.look.proofs.Sees.{step-parts}
 
 -- ---- one actor
-
-module _ (table : List ℕ) (a : ℕ) (r : Actor) (comms queues : List ℕ) where
-  pub looks-finished : count_of table a ≤ r.position → (log ends : List ℕ) → false ≡ looks_ready table a r comms queues log ends
-  looks-finished h log ends = rw (le-ltb r.position (count_of table a) h)
-
-  pub looks-by : r.position < count_of table a → (t : NextStep) → ((log ends : List ℕ) → t ≡ step_from table a r comms queues log ends)
-      → (log ends : List ℕ) → is_taken t ≡ looks_ready table a r comms queues log ends
-  looks-by h t next log ends = rw (lt-ltb r.position (count_of table a) h) (ap is_taken (next log ends))
-
-  -- the step of the action x is that of the next action, which x is
-  pub steps-by : (x : Action) → next_of table a r ≡ x → (t : NextStep)
-      → ((log ends : List ℕ) → t ≡ step_of table (seen_from r (mail_of comms log ends) (queues_of queues)) a x)
-      → (log ends : List ℕ) → t ≡ step_from table a r comms queues log ends
-  steps-by x e t next log ends = next log ends ∙ ap (step_of table (seen_from r (mail_of comms log ends) (queues_of queues)) a) (sym e)
 
 -- what an actor's next step is, by its record: the ports' logs and the journal play no part
 pub step-looks : (table : List ℕ) (actors : List Actor) (comms queues log ends journal log' ends' : List ℕ) (a : ℕ)
@@ -83,9 +68,6 @@ mask_next f n a h low =
     let up : suc (a - 1) ≡ a = omega arith in
     ap (λ (c : ℕ). mask_of f c (a - 1)) more ∙ ap (λ (k : ℕ). bit (f (a - 1)) + 2 * mask_of f (n - a) k) up
 
-pub mask-begin : (f : ℕ → Bool) (n : ℕ) → 0 ≡ mask_of f (n - n) n
-mask-begin f n = let none : n - n ≡ 0 = omega arith in sym (ap (λ (c : ℕ). mask_of f c n) none)
-
 pub mask_end : (f : ℕ → Bool) (n a : ℕ) → a ≤ 0 → mask_of f (n - a) a ≡ mask_of f n 0
 mask_end f n a h = let z : a ≡ 0 = omega arith in let m : n - a ≡ n = omega arith in ap₂ (mask_of f) m z
 
@@ -123,7 +105,7 @@ module _ {table : List ℕ} {actors : List Actor} {comms queues : List ℕ} (A :
   looked {a} {b} r there looks log ends journal =
       looks log ends
       ∙ ap (λ (q : Actor). looks_ready table a q comms queues log ends)
-      (get_or-within actors a r fresh_actor (omega (arith, A.accepted.actors-most, A.actors-long)))
+      (get_or_default actors a r fresh_actor (omega (arith, A.accepted.actors-most, A.actors-long)))
       ∙ sym (ready-looks table actors comms queues log ends journal a there)
 
   -- an actor's bit below those that stand
