@@ -11,11 +11,14 @@ ghost use Rattle.fields.specs.Parts.{Room, LimitsOf, Plain, Listed};
 
 use table::{Fault, Kind, bytes, demand};
 
-// What the numbers in a table's actions lie under: p, by kind, and a listed mutex.
+// What the checks of a table's actions go by, made once. By kind, what p lies under, what q does where the kind has no list, and what b4 to b7 as one
+// number are at most; nothing lies under 0, so that a list is looked at by itself.
 #[derive(Clone, Copy)]
 pub struct Limits {
-    p: [u8; 12],
     mutexes: u8,
+    p: [u8; 12],
+    q: [u8; 12],
+    value: [u32; 12],
 }
 
 impl Limits {
@@ -27,16 +30,13 @@ impl Limits {
         let m = table[2];
         let x = table[3];
         Limits {
-            p: [8, 8, 8, m, m, 8, 8, x, x, 8, 8, 8],
             mutexes: x,
+            p: [8, 8, 8, m, m, 8, 8, x, x, 8, 8, 8],
+            q: [1, 8, 8, 8, 8, 0, 0, 1, 1, 0, 0, 1],
+            value: [4294967295, 0, 0, 0, 0, 0, 0, 0, 0, 0, 0, 0],
         }
     }
 }
-
-// By kind, for the quick test: what q lies under, and what b4 to b7 as one number are at most. Nothing lies under 0, so that a list is looked at by itself.
-static Q_UNDER: [u8; 12] = [1, 8, 8, 8, 8, 0, 0, 1, 1, 0, 0, 1];
-
-static VALUE_MOST: [u32; 12] = [4294967295, 0, 0, 0, 0, 0, 0, 0, 0, 0, 0, 0];
 
 // An action. Most have no list and nothing wrong, which a few tests without a branch by kind show.
 pub fn check(t: &[u8], first: usize, k: usize, limits: &Limits) -> Result<(), Fault>
@@ -58,9 +58,9 @@ fn plain(t: &[u8], at: usize, limits: &Limits) -> bool
     let kind = usize::from(t[at]);
     kind <= 11
         && t[at + 1] < limits.p[kind]
-        && t[at + 2] < Q_UNDER[kind]
+        && t[at + 2] < limits.q[kind]
         && t[at + 3] == 0
-        && bytes::long(t, at + 4) <= VALUE_MOST[kind]
+        && bytes::long(t, at + 4) <= limits.value[kind]
 }
 
 // An action, by its kind.
