@@ -8,6 +8,4 @@ use Rattle.table.specs.Read.{entry_of}
 use Rattle.reader.proofs.directory.Given as goal
 
 abbrev pub invariant-loop-a : goal.invariant-loop-a
-invariant-loop-a l =
-    (l.due ≡ due_of l.t l.a)
-    × (each (entry_of l.t) (actors_of l.t) 0 ≡ each (entry_of l.t) (actors_of l.t - l.a) l.a)
+invariant-loop-a l = (l.due ≡ due_of l.t l.a) × (each (entry_of l.t) (actors_of l.t) 0 ≡ each (entry_of l.t) (actors_of l.t - l.a) l.a)

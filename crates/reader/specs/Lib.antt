@@ -1,0 +1,2 @@
+-- What the reader's functions promise one another.
+pub mod Parts
