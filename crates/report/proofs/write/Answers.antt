@@ -12,7 +12,7 @@ use Rattle.writing.specs.Written.{Wrote}
 use Rattle.actor_sections.specs.Parts.{actors_bytes, actions_bytes}
 use Rattle.queue_sections.specs.Parts.{boxes_bytes, mutexes_bytes}
 use Rattle.writing.proofs.Written.{rest, joined}
-use Rattle.writing.proofs.Sections.{Begun, first-section, left_at, left-room, last_sum, last-wrote, section-room, next-section}
+use Rattle.writing.proofs.Sections.{Begun, first-section, left-room, last-wrote, section-room, next-section}
 use Rattle.report.specs.Parts.{Reportable}
 use Rattle.report.proofs.write.Goals as goal
 
@@ -82,53 +82,17 @@ module _ {table : List ℕ} {actors : List Actor} {comms log ends queues journal
 pub actors_part-actions-requires : goal.actors_part-actions-requires
 actors_part-actions-requires c = asked1 c.requires c.actors-n.ensures
 
-pub slice_bounds-actions_part-count : goal.slice_bounds-actions_part-count
-slice_bounds-actions_part-count c = left_at (begun1 c.requires c.actors-n.ensures c.actors_part-actions.ensures)
-
-pub slice_bounds-actions_part-start : goal.slice_bounds-actions_part-start
-slice_bounds-actions_part-start c = left_at (begun1 c.requires c.actors-n.ensures c.actors_part-actions.ensures)
-
 pub actions_part-requires : goal.actions_part-requires
 actions_part-requires c = asked2 c.requires c.actors-n.ensures (begun1 c.requires c.actors-n.ensures c.actors_part-actions.ensures)
-
-pub overflow_add-boxes : goal.overflow_add-boxes
-overflow_add-boxes c = omega (arith, last_sum (begun2 c.requires c.actors-n.ensures (begun1 c.requires c.actors-n.ensures c.actors_part-actions.ensures) c.actions_part.ensures) refl)
-
-pub slice_bounds-boxes_part-count : goal.slice_bounds-boxes_part-count
-slice_bounds-boxes_part-count c = left_at (begun2 c.requires c.actors-n.ensures (begun1 c.requires c.actors-n.ensures c.actors_part-actions.ensures) c.actions_part.ensures)
-
-pub slice_bounds-boxes_part-start : goal.slice_bounds-boxes_part-start
-slice_bounds-boxes_part-start c = left_at (begun2 c.requires c.actors-n.ensures (begun1 c.requires c.actors-n.ensures c.actors_part-actions.ensures) c.actions_part.ensures)
 
 pub boxes_part-requires : goal.boxes_part-requires
 boxes_part-requires c = asked3 c.requires c.mailboxes-m.ensures (begun2 c.requires c.actors-n.ensures (begun1 c.requires c.actors-n.ensures c.actors_part-actions.ensures) c.actions_part.ensures)
 
-pub overflow_add-mutexes : goal.overflow_add-mutexes
-overflow_add-mutexes c = omega (arith, last_sum (begun3 c.requires c.mailboxes-m.ensures (begun2 c.requires c.actors-n.ensures (begun1 c.requires c.actors-n.ensures c.actors_part-actions.ensures) c.actions_part.ensures) c.boxes_part.ensures) refl)
-
-pub slice_bounds-mutexes_part-count : goal.slice_bounds-mutexes_part-count
-slice_bounds-mutexes_part-count c = left_at (begun3 c.requires c.mailboxes-m.ensures (begun2 c.requires c.actors-n.ensures (begun1 c.requires c.actors-n.ensures c.actors_part-actions.ensures) c.actions_part.ensures) c.boxes_part.ensures)
-
-pub slice_bounds-mutexes_part-start : goal.slice_bounds-mutexes_part-start
-slice_bounds-mutexes_part-start c = left_at (begun3 c.requires c.mailboxes-m.ensures (begun2 c.requires c.actors-n.ensures (begun1 c.requires c.actors-n.ensures c.actors_part-actions.ensures) c.actions_part.ensures) c.boxes_part.ensures)
-
 pub mutexes_part-requires : goal.mutexes_part-requires
 mutexes_part-requires c = asked4 c.requires c.mutexes-x.ensures (begun3 c.requires c.mailboxes-m.ensures (begun2 c.requires c.actors-n.ensures (begun1 c.requires c.actors-n.ensures c.actors_part-actions.ensures) c.actions_part.ensures) c.boxes_part.ensures)
 
-pub overflow_add-entries : goal.overflow_add-entries
-overflow_add-entries c = omega (arith, last_sum (begun4 c.requires c.mutexes-x.ensures (begun3 c.requires c.mailboxes-m.ensures (begun2 c.requires c.actors-n.ensures (begun1 c.requires c.actors-n.ensures c.actors_part-actions.ensures) c.actions_part.ensures) c.boxes_part.ensures) c.mutexes_part.ensures) refl)
-
-pub slice_bounds-part-count : goal.slice_bounds-part-count
-slice_bounds-part-count c = left_at (begun4 c.requires c.mutexes-x.ensures (begun3 c.requires c.mailboxes-m.ensures (begun2 c.requires c.actors-n.ensures (begun1 c.requires c.actors-n.ensures c.actors_part-actions.ensures) c.actions_part.ensures) c.boxes_part.ensures) c.mutexes_part.ensures)
-
-pub slice_bounds-part-start : goal.slice_bounds-part-start
-slice_bounds-part-start c = left_at (begun4 c.requires c.mutexes-x.ensures (begun3 c.requires c.mailboxes-m.ensures (begun2 c.requires c.actors-n.ensures (begun1 c.requires c.actors-n.ensures c.actors_part-actions.ensures) c.actions_part.ensures) c.boxes_part.ensures) c.mutexes_part.ensures)
-
 pub part-requires : goal.part-requires
 part-requires c = (c.requires.journal-room, left-room (begun4 c.requires c.mutexes-x.ensures (begun3 c.requires c.mailboxes-m.ensures (begun2 c.requires c.actors-n.ensures (begun1 c.requires c.actors-n.ensures c.actors_part-actions.ensures) c.actions_part.ensures) c.boxes_part.ensures) c.mutexes_part.ensures))
-
-pub overflow_add-result : goal.overflow_add-result
-overflow_add-result c = omega (arith, last_sum (begun4 c.requires c.mutexes-x.ensures (begun3 c.requires c.mailboxes-m.ensures (begun2 c.requires c.actors-n.ensures (begun1 c.requires c.actors-n.ensures c.actors_part-actions.ensures) c.actions_part.ensures) c.boxes_part.ensures) c.mutexes_part.ensures) c.part.ensures.0)
 
 pub returns : goal.returns
 returns c = last-wrote (begun4 c.requires c.mutexes-x.ensures (begun3 c.requires c.mailboxes-m.ensures (begun2 c.requires c.actors-n.ensures (begun1 c.requires c.actors-n.ensures c.actors_part-actions.ensures) c.actions_part.ensures) c.boxes_part.ensures) c.mutexes_part.ensures) c.part.ensures
