@@ -54,7 +54,8 @@ fn directory(t: &[u8]) -> Result<usize, Fault>
 // One entry: where the next actor's actions have to begin.
 fn entry(t: &[u8], a: usize, due: usize) -> Result<usize, Fault>
     requires { (8 + 4 * a ≤ length t.now) × (due ≡ due_of t.now a) }
-    ensures { MatchResult result (λ next. (entry_of t.now a ≡ accepted) × (next ≡ due_of t.now (a + 1))) (λ fault. entry_of t.now a ≡ fault_of fault) }
+    ensures { MatchResult result (λ next. (entry_of t.now a ≡ accepted) × (next ≡ due_of t.now (a + 1)))
+        (λ fault. entry_of t.now a ≡ fault_of fault) }
 {
     let count = bytes::word(t, 6 + 4 * a);
     demand(bytes::word(t, 4 + 4 * a) == due, Fault::Directory)?;

@@ -1,4 +1,5 @@
-// The counts that stand in a table, read in place; `within` reads its actions. Each function answers for every file and every number: a byte past the end counts as 0.
+// The counts that stand in a table, read in place; `within` reads its actions. Each function answers for every file and every number: a byte past
+// the end counts as 0.
 ghost use Rattle.std.specs.Prelude.{◌≡◌, ◌<◌};
 ghost use Rattle.table.specs.Format.{byte_at, actors_of, mailboxes_of, mutexes_of, count_of};
 

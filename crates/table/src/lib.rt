@@ -10,7 +10,7 @@ pub mod access;
 pub mod bytes;
 pub mod within;
 
-// The numbers that a list names: the first `count` of `all`.
+// The numbers that a list names: the first `count` of `all`. No heap, so a list of at most four is an array with its count.
 #[derive(Clone, Copy)]
 pub struct Numbers {
     pub count: usize,

@@ -16,5 +16,6 @@ returns c =
     let a = c.args in
     c.demand.ensures
     ∙ ap (λ (all : Bool). demand all 8 (place_of a.first a.k))
-    (all_from_yields_List (allowed a.t.now a.first a.k) _ _ _ c.all.ensures.ran (YieldsList-from_slice a.list.now cc) (λ x b q k. search (rules, tests)))
+    (all_from_yields_List (allowed a.t.now a.first a.k) _ _ _ c.all.ensures.ran (YieldsList-from_slice a.list.now cc)
+    (λ x b q k. search (rules, tests)))
     ∙ each-listed a.t.now (place_of a.first a.k) (allowed a.t.now a.first a.k) 8 (place_of a.first a.k) a.list.now c.requires.0 c.requires.1
