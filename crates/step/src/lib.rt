@@ -31,49 +31,50 @@ pub fn step(
         comms.new log.new ends.new queues.new journal.new result }
 {
     let me = 32 * a + r.position;
-    match table::within::action(table, a, r.position) {
-        Action::Set { cell, value } => Ok(r.put(cell, value).next()),
+    let after = match table::within::action(table, a, r.position) {
+        Action::Set { cell, value } => r.put(cell, value),
         Action::Add { cell, other } => {
             r.adding(cell, other)?;
-            Ok(r.add(cell, other).next())
+            r.add(cell, other)
         }
-        Action::Lesser { cell, other } => Ok(r.lesser(cell, other).next()),
+        Action::Lesser { cell, other } => r.lesser(cell, other),
         Action::Send { mailbox, cell } => {
             mail::send(comms, log, ends, me, mailbox, r.cells[cell]);
-            Ok(r.next())
+            r
         }
         Action::Receive { mailbox, cell: _ } => {
             mail::receive(comms, log, ends, me, mailbox);
-            Ok(r.next())
+            r
         }
         Action::TestAny { result, list } => {
             let seen = look::communications(comms, a, list);
-            Ok(told(picked(table, a, r, seen), result, seen))
+            told(picked(table, a, r, seen), result, seen)
         }
         Action::WaitAny { result, list } => {
             let seen = look::communications(comms, a, list);
             look::awaited(seen)?;
-            Ok(told(picked(table, a, r, seen), result, seen))
+            told(picked(table, a, r, seen), result, seen)
         }
         Action::Lock { mutex } => {
             mutex::join(queues, mutex, a);
-            Ok(r.next())
+            r
         }
         Action::Unlock { mutex } => {
             mutex::leave(queues, mutex, a);
-            Ok(r.next())
+            r
         }
-        Action::MutexTest { result, list } => Ok(told(r, result, look::mutexes(queues, a, list))),
+        Action::MutexTest { result, list } => told(r, result, look::mutexes(queues, a, list)),
         Action::MutexWait { result, list } => {
             let seen = look::mutexes(queues, a, list);
             look::awaited(seen)?;
-            Ok(told(r, result, seen))
+            told(r, result, seen)
         }
         Action::Note { cell } => {
             journal::add(journal, me, r.cells[cell]);
-            Ok(r.next())
+            r
         }
-    }
+    };
+    Ok(after.next())
 }
 
 // The value of a Receive that was found goes into its cell.
@@ -90,11 +91,11 @@ fn picked(table: &[u8], a: usize, r: Actor, seen: Option<Found>) -> Actor
     }
 }
 
-// The place found, or 0, goes into the result cell, and the next action follows.
+// The place found, or 0, goes into the result cell.
 fn told(r: Actor, res: usize, seen: Option<Found>) -> Actor
-    requires { (res < 8) × (r.position < 32) × SmallPlace (seen_of seen) }
-    ensures { (result.position ≡ r.position + 1) × (result.cells ≡ set r.cells res (place_seen (seen_of seen))) }
+    requires { (res < 8) × SmallPlace (seen_of seen) }
+    ensures { (result.position ≡ r.position) × (result.cells ≡ set r.cells res (place_seen (seen_of seen))) }
 {
     let place = seen.map_or(0, |found| found.place as u32);
-    r.put(res, place).next()
+    r.put(res, place)
 }

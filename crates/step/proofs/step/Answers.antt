@@ -5,8 +5,8 @@ use mathlib.Core.Path.{◌≡◌, refl, ◌∙◌, ap, sym, subst}
 use native.Mathlib.Omega.{arith}
 use lib.ListN.{get_or, set}
 use Rattle.table.specs.Decode.{action_of}
-use Rattle.step.specs.Parts.{Picks, SmallPlace}
-use Rattle.step.proofs.Taken.{ranged, position-small, pickable, small-place, quiet, posted, queued, noted, of-next}
+use Rattle.step.specs.Parts.{StepTaken, Picks, SmallPlace}
+use Rattle.step.proofs.Taken.{ranged, pickable, small-place, quiet, posted, queued, noted, of-next}
 use mathlib.Core.List.{List}
 use Prim.Native.Nat.{ℕ, ◌+◌}
 use mathlib.Core.Bool.{cond}
@@ -16,15 +16,34 @@ use Rattle.model.specs.Views.{joins, leaves}
 use Rattle.mail.specs.Parts.{sends_at, receives_at}
 use Rattle.model.specs.Local.{Seen, pick_up_seen, place_seen, is_seen, cells_after}
 use Rattle.model.specs.Step.{taken, waiting}
+use Rattle.std.proofs.Common.{Result}
+use Rattle.state.specs.State.{next_of}
+use Rattle.state.specs.declared.Hold.{Hold}
 use Rattle.step.proofs.step.Goals as goal
+use Rattle.step.proofs.step.Goals.{in-Set, in-Add+in_ok-adding-in-Add, in-Lesser, in-Send, in-Receive, in-TestAny, in-WaitAny+in_ok-awaited-in-WaitAny, in-Lock, in-Unlock, in-MutexTest, in-MutexWait+in_ok-awaited-in-MutexWait, in-Note}
+
+-- what the arrays hold where the arms join is what the arm left in them
+joined : {table : List ℕ} {a : ℕ} {x : Action} {r : Actor} {s : Result Actor Hold} {comms log ends queues journal c l e q j comms' log' ends' queues' journal' : List ℕ}
+    → c ≡ comms' → l ≡ log' → e ≡ ends' → q ≡ queues' → j ≡ journal'
+    → next_of table a r ≡ x
+    → StepTaken table a x r comms log ends queues journal comms' log' ends' queues' journal' s
+    → StepTaken table a (next_of table a r) r comms log ends queues journal c l e q j s
+joined cs ls es qs js is t = rw (cs, ls, es, qs, js) (of-next _ is t)
+
+-- the record that is handed back, by the one that the arm made of the actor's
+handed : (r next : Actor) {made after : Actor} {cells : List ℕ} → (next.position ≡ after.position + 1) × (next.cells ≡ after.cells) → after ≡ made
+    → (made.position ≡ r.position) × (made.cells ≡ cells) → (next.position ≡ r.position + 1) × (next.cells ≡ cells)
+handed r next {made} {after} n is m =
+    let position : after.position ≡ r.position = ap (λ (q : Actor). q.position) is ∙ m.0 in
+    (omega (arith, n.0), n.1 ∙ ap (λ (q : Actor). q.cells) is ∙ m.1)
 
 -- a look's place goes into the result cell of the record that has picked up what was found
 looked : (own : ℕ → Action) (res : ℕ) (r picked told : Actor) {saw found : Seen} → saw ≡ found
     → (picked.position ≡ r.position) × (picked.cells ≡ pick_up_seen own saw r.cells)
-    → (told.position ≡ picked.position + 1) × (told.cells ≡ set picked.cells res (place_seen saw))
-    → (told.position ≡ r.position + 1) × (told.cells ≡ set (pick_up_seen own found r.cells) res (place_seen found))
+    → (told.position ≡ picked.position) × (told.cells ≡ set picked.cells res (place_seen saw))
+    → (told.position ≡ r.position) × (told.cells ≡ set (pick_up_seen own found r.cells) res (place_seen found))
 looked own res r picked told {saw} same p t = (
-  omega (arith, p.0, t.0),
+  t.0 ∙ p.0,
   t.1
       ∙ ap (λ (cells : List ℕ). set cells res (place_seen saw)) p.1
       ∙ ap (λ (f : Seen). set (pick_up_seen own f r.cells) res (place_seen f)) same,
@@ -34,11 +53,10 @@ pub picked-requires : goal.picked-requires
 picked-requires c =
     (c.requires.accepted, c.requires.actor, subst (Picks c.args.table.now c.args.a) (sym c.communications-seen.ensures) (pickable c.requires _ _ _ (ranged c.requires _ (sym c.in-TestAny.ensures)).1))
 
-pub told-requires : goal.told-requires
-told-requires c =
+pub told-after-requires : goal.told-after-requires
+told-after-requires c =
     let range = ranged c.requires _ (sym c.in-TestAny.ensures) in (
       range.0,
-      omega (arith, c.picked.ensures.0, position-small c.requires),
       subst SmallPlace (sym c.communications-seen.ensures) (small-place _ _ _ range.1.most),
     )
 
@@ -46,98 +64,56 @@ pub picked-requires-in-WaitAny : goal.picked-requires-in-WaitAny
 picked-requires-in-WaitAny c =
     (c.requires.accepted, c.requires.actor, subst (Picks c.args.table.now c.args.a) (sym c.communications-seen-in-WaitAny.ensures) (pickable c.requires _ _ _ (ranged c.requires _ (sym c.in-WaitAny.ensures)).1))
 
-pub told-requires-in-WaitAny : goal.told-requires-in-WaitAny
-told-requires-in-WaitAny c =
+pub told-after-requires-in-WaitAny : goal.told-after-requires-in-WaitAny
+told-after-requires-in-WaitAny c =
     let range = ranged c.requires _ (sym c.in-WaitAny.ensures) in (
       range.0,
-      omega (arith, c.picked-in-WaitAny.ensures.0, position-small c.requires),
       subst SmallPlace (sym c.communications-seen-in-WaitAny.ensures) (small-place _ _ _ range.1.most),
     )
 
-pub told-requires-in-MutexTest : goal.told-requires-in-MutexTest
-told-requires-in-MutexTest c =
+pub told-after-requires-in-MutexTest : goal.told-after-requires-in-MutexTest
+told-after-requires-in-MutexTest c =
     let range = ranged c.requires _ (sym c.in-MutexTest.ensures) in
-    (range.0, position-small c.requires, subst SmallPlace (sym c.mutexes.ensures) (small-place _ _ _ range.1.most))
+    (range.0, subst SmallPlace (sym c.mutexes.ensures) (small-place _ _ _ range.1.most))
 
-pub told-requires-in-MutexWait : goal.told-requires-in-MutexWait
-told-requires-in-MutexWait c =
+pub told-after-requires-in-MutexWait : goal.told-after-requires-in-MutexWait
+told-after-requires-in-MutexWait c =
     let range = ranged c.requires _ (sym c.in-MutexWait.ensures) in
-    (range.0, position-small c.requires, subst SmallPlace (sym c.mutexes-seen.ensures) (small-place _ _ _ range.1.most))
+    (range.0, subst SmallPlace (sym c.mutexes-seen.ensures) (small-place _ _ _ range.1.most))
 
-pub returns-in-Set : goal.returns-in-Set
+pub returns : goal.returns
 unfolding cells_after
-returns-in-Set c =
-    of-next _ (sym c.in-Set.ensures)
-    (quiet c.requires _ c.next.result refl refl (omega (arith, c.next.ensures.0, c.put.ensures.0), c.next.ensures.1 ∙ c.put.ensures.1))
-
-pub returns-in_ok-adding-in-Add : goal.returns-in_ok-adding-in-Add
-unfolding cells_after
-returns-in_ok-adding-in-Add c =
-    of-next _ (sym c.in-Add.ensures)
-    (quiet c.requires _ c.next-in-Add.result refl c.in_ok-adding-in-Add.ensures
-    (omega (arith, c.next-in-Add.ensures.0, c.add.ensures.0), c.next-in-Add.ensures.1 ∙ c.add.ensures.1))
-
-pub returns-in-Lesser : goal.returns-in-Lesser
-unfolding cells_after
-returns-in-Lesser c =
-    of-next _ (sym c.in-Lesser.ensures)
-    (quiet c.requires _ c.next-in-Lesser.result refl refl
-    (omega (arith, c.next-in-Lesser.ensures.0, c.lesser.ensures.0), c.next-in-Lesser.ensures.1 ∙ c.lesser.ensures.1))
-
-pub returns-in-Send : goal.returns-in-Send
-unfolding cells_after
-returns-in-Send c =
-    of-next _ (sym c.in-Send.ensures)
-    (posted c.requires _ c.next-in-Send.result (sends_at c.in-Send.mailbox) (get_or c.args.r.cells c.in-Send.cell 0) refl refl refl c.send.ensures c.next-in-Send.ensures)
-
-pub returns-in-Receive : goal.returns-in-Receive
-unfolding cells_after
-returns-in-Receive c =
-    of-next _ (sym c.in-Receive.ensures)
-    (posted c.requires _ c.next-in-Receive.result (receives_at c.in-Receive.mailbox) 0 refl refl refl c.receive.ensures c.next-in-Receive.ensures)
-
-pub returns-in-TestAny : goal.returns-in-TestAny
-unfolding cells_after
-returns-in-TestAny c =
-    of-next _ (sym c.in-TestAny.ensures)
-    (quiet c.requires _ c.told.result refl refl
-    (looked (action_of c.args.table.now c.args.a) c.in-TestAny.result c.args.r c.picked.result c.told.result c.communications-seen.ensures c.picked.ensures c.told.ensures))
-
-pub returns-in_ok-awaited-in-WaitAny : goal.returns-in_ok-awaited-in-WaitAny
-unfolding cells_after
-returns-in_ok-awaited-in-WaitAny c =
-    of-next _ (sym c.in-WaitAny.ensures)
-    (quiet c.requires _ c.told-in-WaitAny.result refl
-    (c.in_ok-awaited-in-WaitAny.ensures ∙ ap (λ (f : Seen). cond (is_seen f) taken waiting) c.communications-seen-in-WaitAny.ensures)
-    (looked (action_of c.args.table.now c.args.a) c.in-WaitAny.result c.args.r c.picked-in-WaitAny.result c.told-in-WaitAny.result
-    c.communications-seen-in-WaitAny.ensures c.picked-in-WaitAny.ensures c.told-in-WaitAny.ensures))
-
-pub returns-in-Lock : goal.returns-in-Lock
-unfolding cells_after
-returns-in-Lock c =
-    of-next _ (sym c.in-Lock.ensures)
-    (queued c.requires _ c.next-in-Lock.result (joins c.in-Lock.mutex) refl refl (λ me v mail. refl) (λ me v entries. refl) c.join.ensures c.next-in-Lock.ensures)
-
-pub returns-in-Unlock : goal.returns-in-Unlock
-unfolding cells_after
-returns-in-Unlock c =
-    of-next _ (sym c.in-Unlock.ensures)
-    (queued c.requires _ c.next-in-Unlock.result (leaves c.in-Unlock.mutex) refl refl (λ me v mail. refl) (λ me v entries. refl) c.leave.ensures c.next-in-Unlock.ensures)
-
-pub returns-in-MutexTest : goal.returns-in-MutexTest
-unfolding cells_after
-returns-in-MutexTest c =
-    of-next _ (sym c.in-MutexTest.ensures)
-    (quiet c.requires _ c.told-in-MutexTest.result refl refl
-    (c.told-in-MutexTest.ensures.0, c.told-in-MutexTest.ensures.1 ∙ ap (λ (f : Seen). set c.args.r.cells c.in-MutexTest.result (place_seen f)) c.mutexes.ensures))
-
-pub returns-in_ok-awaited-in-MutexWait : goal.returns-in_ok-awaited-in-MutexWait
-unfolding cells_after
-returns-in_ok-awaited-in-MutexWait c =
-    of-next _ (sym c.in-MutexWait.ensures)
-    (quiet c.requires _ c.told-in-MutexWait.result refl
-    (c.in_ok-awaited-in-MutexWait.ensures ∙ ap (λ (f : Seen). cond (is_seen f) taken waiting) c.mutexes-seen.ensures)
-    (c.told-in-MutexWait.ensures.0, c.told-in-MutexWait.ensures.1 ∙ ap (λ (f : Seen). set c.args.r.cells c.in-MutexWait.result (place_seen f)) c.mutexes-seen.ensures))
-
-pub returns-in-Note : goal.returns-in-Note
-returns-in-Note c = of-next _ (sym c.in-Note.ensures) (noted c.requires c.in-Note.cell c.next-in-Note.result c.add-in-Note.ensures c.next-in-Note.ensures)
+returns c =
+    elim c.match-action.branch [
+      | in-Set w ↦ joined w.comms-is w.log-is w.ends-is w.queues-is w.journal-is (sym w.in-Set.ensures)
+          (quiet c.requires _ c.next.result refl refl (handed c.args.r c.next.result c.next.ensures w.after-is w.put-after.ensures))
+      | in-Add+in_ok-adding-in-Add w ↦ joined w.comms-is w.log-is w.ends-is w.queues-is w.journal-is (sym w.in-Add.ensures)
+          (quiet c.requires _ c.next.result refl w.in_ok-adding-in-Add.ensures (handed c.args.r c.next.result c.next.ensures w.after-is w.add-after.ensures))
+      | in-Lesser w ↦ joined w.comms-is w.log-is w.ends-is w.queues-is w.journal-is (sym w.in-Lesser.ensures)
+          (quiet c.requires _ c.next.result refl refl (handed c.args.r c.next.result c.next.ensures w.after-is w.lesser-after.ensures))
+      | in-Send w ↦ joined w.comms-is w.log-is w.ends-is w.queues-is w.journal-is (sym w.in-Send.ensures)
+          (posted c.requires _ c.next.result (sends_at w.in-Send.mailbox) (get_or c.args.r.cells w.in-Send.cell 0) refl refl refl w.send.ensures (handed c.args.r c.next.result c.next.ensures w.after-is (refl, refl)))
+      | in-Receive w ↦ joined w.comms-is w.log-is w.ends-is w.queues-is w.journal-is (sym w.in-Receive.ensures)
+          (posted c.requires _ c.next.result (receives_at w.in-Receive.mailbox) 0 refl refl refl w.receive.ensures (handed c.args.r c.next.result c.next.ensures w.after-is (refl, refl)))
+      | in-TestAny w ↦ joined w.comms-is w.log-is w.ends-is w.queues-is w.journal-is (sym w.in-TestAny.ensures)
+          (quiet c.requires _ c.next.result refl refl (handed c.args.r c.next.result c.next.ensures w.after-is
+          (looked (action_of c.args.table.now c.args.a) w.in-TestAny.result c.args.r w.picked.result w.told-after.result w.communications-seen.ensures w.picked.ensures w.told-after.ensures)))
+      | in-WaitAny+in_ok-awaited-in-WaitAny w ↦ joined w.comms-is w.log-is w.ends-is w.queues-is w.journal-is (sym w.in-WaitAny.ensures)
+          (quiet c.requires _ c.next.result refl (w.in_ok-awaited-in-WaitAny.ensures ∙ ap (λ (f : Seen). cond (is_seen f) taken waiting) w.communications-seen-in-WaitAny.ensures)
+          (handed c.args.r c.next.result c.next.ensures w.after-is
+          (looked (action_of c.args.table.now c.args.a) w.in-WaitAny.result c.args.r w.picked-in-WaitAny.result w.told-after-in-WaitAny.result
+          w.communications-seen-in-WaitAny.ensures w.picked-in-WaitAny.ensures w.told-after-in-WaitAny.ensures)))
+      | in-Lock w ↦ joined w.comms-is w.log-is w.ends-is w.queues-is w.journal-is (sym w.in-Lock.ensures)
+          (queued c.requires _ c.next.result (joins w.in-Lock.mutex) refl refl (λ me v mail. refl) (λ me v entries. refl) w.join.ensures (handed c.args.r c.next.result c.next.ensures w.after-is (refl, refl)))
+      | in-Unlock w ↦ joined w.comms-is w.log-is w.ends-is w.queues-is w.journal-is (sym w.in-Unlock.ensures)
+          (queued c.requires _ c.next.result (leaves w.in-Unlock.mutex) refl refl (λ me v mail. refl) (λ me v entries. refl) w.leave.ensures (handed c.args.r c.next.result c.next.ensures w.after-is (refl, refl)))
+      | in-MutexTest w ↦ joined w.comms-is w.log-is w.ends-is w.queues-is w.journal-is (sym w.in-MutexTest.ensures)
+          (quiet c.requires _ c.next.result refl refl (handed c.args.r c.next.result c.next.ensures w.after-is
+          (w.told-after-in-MutexTest.ensures.0, w.told-after-in-MutexTest.ensures.1 ∙ ap (λ (f : Seen). set c.args.r.cells w.in-MutexTest.result (place_seen f)) w.mutexes.ensures)))
+      | in-MutexWait+in_ok-awaited-in-MutexWait w ↦ joined w.comms-is w.log-is w.ends-is w.queues-is w.journal-is (sym w.in-MutexWait.ensures)
+          (quiet c.requires _ c.next.result refl (w.in_ok-awaited-in-MutexWait.ensures ∙ ap (λ (f : Seen). cond (is_seen f) taken waiting) w.mutexes-seen.ensures)
+          (handed c.args.r c.next.result c.next.ensures w.after-is
+          (w.told-after-in-MutexWait.ensures.0, w.told-after-in-MutexWait.ensures.1 ∙ ap (λ (f : Seen). set c.args.r.cells w.in-MutexWait.result (place_seen f)) w.mutexes-seen.ensures)))
+      | in-Note w ↦ joined w.comms-is w.log-is w.ends-is w.queues-is w.journal-is (sym w.in-Note.ensures)
+          (noted c.requires w.in-Note.cell c.next.result w.add.ensures (handed c.args.r c.next.result c.next.ensures w.after-is (refl, refl)))
+    ]
