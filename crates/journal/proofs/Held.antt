@@ -11,7 +11,7 @@ use Rattle.model.specs.Report.{parts, entry_bytes}
 use Rattle.names.specs.InByte.{name_of}
 use Rattle.state.specs.State.{entry_of, number_noted, journal_of, JournalRoom}
 use Rattle.journal.specs.Parts.{six_bytes, six_at}
-use Rattle.writing.proofs.Stored.{stored}
+use Rattle.state.proofs.Stored.{stored}
 use Rattle.writing.proofs.Flat.{flat, flat-at}
 
 -- the journal is as long as its first number says

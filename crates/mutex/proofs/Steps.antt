@@ -14,7 +14,7 @@ use Rattle.model.specs.Site.{Queued, upd}
 use Rattle.model.specs.Mutex.{join, leave}
 use Rattle.model.specs.Depths.{depth_in}
 use Rattle.state.specs.State.{queued_of, size_in, entries_in, queues_of, QueueRoom}
-use Rattle.writing.proofs.Stored.{stored}
+use Rattle.state.proofs.Stored.{stored}
 use Rattle.model.proofs.Upd.{upd-self}
 use Rattle.model.proofs.Ports.{number-test}
 use Rattle.state.proofs.Queued.{entries-length}
