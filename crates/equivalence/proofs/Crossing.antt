@@ -10,6 +10,7 @@ use borrow.Author.Tests.{ltb-true}
 use lib.Dec.{ltb}
 use lib.ListN.{get_or}
 use Rattle.std.proofs.Common.{Option}
+use Rattle.table.specs.Promise.{WellFormed}
 use Rattle.trace.specs.Machine.{Name}
 use Rattle.trace.proofs.Bools.{which, and-shared}
 use Rattle.model.proofs.PairCases.{depends-symmetric}
@@ -57,7 +58,7 @@ module _ (table first : List ℕ) (index : List (Option ℕ)) where
         (λ i. (share (posted table (step_at j)) (looked table (step_at i)) || share (looked table (step_at j)) (posted table (step_at i))) && later i) j)
         ∙ below_alike _ _ j (λ i h. and-shared (share (contested table (step_at j)) (posted table (step_at i))) _ (later i))
 
-    module _ (m : ℕ) (placed : Placed table first index m) (here : j < m) where
+    module _ (m : ℕ) (accepted : WellFormed table) (placed : Placed table first index m) (here : j < m) where
       apart : (i : ℕ) → i < j → later i ≡ true → (step_at j).actor ≢ (step_at i).actor
       unfolding later
       apart i h t e = omega (arith, ltb-true (place_at j) (place_at i) t, placed.own-order i j h here (sym e))
@@ -70,7 +71,7 @@ module _ (table first : List ℕ) (index : List (Option ℕ)) where
           go (inl t) =
               and_comm (clash table (step_at j) (step_at i)) (later i)
               ∙ ap (λ (b : Bool). later i && b)
-              (clash-depends table placed.accepted (step_at j) (step_at i) (placed.stand j here) (placed.stand i (omega arith)) (apart i h t)
+              (clash-depends table accepted (step_at j) (step_at i) (placed.stand j here) (placed.stand i (omega arith)) (apart i h t)
               ∙ depends-symmetric table (step_at j) (step_at i))
           go (inr f) = rw f (and-false (clash table (step_at j) (step_at i)))
 

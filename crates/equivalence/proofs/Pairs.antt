@@ -41,7 +41,6 @@ module _ (table first second : List ℕ) (m : ℕ) (compared : Compared table fi
     pub placed : Placed table first index m
     placed =
         record {
-          accepted = compared.accepted;
           first-long = compared.first-long;
           index-long = long;
           most = compared.most;

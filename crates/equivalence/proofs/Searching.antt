@@ -11,6 +11,7 @@ use lib.Dec.{ltb}
 use lib.ListN.{length, get_or, replicate, length-replicate}
 use Rattle.std.proofs.Common.{Option, Some, None}
 use Rattle.std.specs.Option.{IsSome}
+use Rattle.table.specs.Promise.{WellFormed}
 use Rattle.trace.specs.Search.{going, ended, search_row}
 use Rattle.trace.proofs.Bools.{contrary}
 use Rattle.trace.proofs.Searched.{row-none, row-finds, search-stays}
@@ -47,13 +48,13 @@ module _ (table first : List ℕ) (index : List (Option ℕ)) (m : ℕ) where
         few = omega arith;
       }
 
-  module _ (placed : Placed table first index m) {posts looks : List ℕ} {pairs j : ℕ} (known : Searching posts looks pairs j) (here : j < m)
+  module _ (accepted : WellFormed table) (placed : Placed table first index m) {posts looks : List ℕ} {pairs j : ℕ} (known : Searching posts looks pairs j) (here : j < m)
       {n met : ℕ} {posts' looks' : List ℕ} (named : n ≡ get_or first j 0)
       (passed : Passed table (name_of n) (place_in index first j) posts looks posts' looks' met) where
     test : ltb (place_in index first j) met ≡ any_below (λ i. crosses table first (place_in index first) i j) j
     test =
         ap (ltb (place_in index first j)) (passed.met ∙ ap (λ (b : ℕ). latest_met table (name_of b) posts looks) named)
-        ∙ crossing-test table first index posts looks j known.before known.seen m placed here
+        ∙ crossing-test table first index posts looks j known.before known.seen m accepted placed here
 
     -- ---- no earlier step is crossed
 
@@ -81,12 +82,12 @@ module _ (table first : List ℕ) (index : List (Option ℕ)) (m : ℕ) where
         posts-next : PostsBefore table first index (raised (place_in index first j) (posted table (name_of (get_or first j 0))) posts) (suc j)
         posts-next =
             latest-next _ (place_at table first index) posts j known.before
-            (rw known.posts-long (posted-fit table placed.accepted (name_of (get_or first j 0)) (placed.stand j here)))
+            (rw known.posts-long (posted-fit table accepted (name_of (get_or first j 0)) (placed.stand j here)))
 
         looks-next : LooksBefore table first index (raised (place_in index first j) (looked table (name_of (get_or first j 0))) looks) (suc j)
         looks-next =
             latest-next _ (place_at table first index) looks j known.seen
-            (rw known.looks-long (looked-fit table placed.accepted (name_of (get_or first j 0)) (placed.stand j here)))
+            (rw known.looks-long (looked-fit table accepted (name_of (get_or first j 0)) (placed.stand j here)))
 
     -- ---- one is, and this is the earliest
 

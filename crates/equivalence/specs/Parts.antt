@@ -1,7 +1,6 @@
 -- What the functions of the same verdict promise one another.
 -- Assumes nothing: these are definitions.
 use Rattle.std.specs.Prelude.{ℕ, zero, suc, ◌<◌, ◌≤◌, ◌≡◌, Bool, true, false, ◌&&◌, cond, List, eqb, ltb, length, get_or, Option, Some, None, is_none, MatchOption}
-use Rattle.table.specs.Promise.{WellFormed}
 use Rattle.trace.specs.Search.{Search, compared_in, has_ended, search}
 use Rattle.model.specs.Pair.{depends}
 use Rattle.model.specs.Calls.{same, different}
@@ -40,9 +39,8 @@ crosses table first place i j = ltb (place j) (place i) && depends table (name_o
 abbrev pub search_of : (table first : List ℕ) → (place : ℕ → ℕ) → ℕ → Search
 search_of table first place m = search (crosses table first place) m
 
--- what the search may rely on: m steps of the table, each with a place, and those of one actor have rising ones
+-- m steps of the table, each with a place, and those of one actor have rising ones
 pub record Placed (table first : List ℕ) (index : List (Option ℕ)) (m : ℕ) : Type 0 where
-  pub accepted : WellFormed table
   pub first-long : length first ≡ 256
   pub index-long : length index ≡ 256
   pub most : m ≤ 256

@@ -3,6 +3,7 @@
 
 ghost use Rattle.std.specs.Prelude.{◌≡◌, ◌<◌, ◌≤◌, length, take};
 ghost use Rattle.std.specs.List.{list_any};
+ghost use Rattle.table.specs.Promise.{WellFormed};
 ghost use Rattle.model.specs.Pair.{depends};
 ghost use Rattle.names.specs.Names.{names_in};
 ghost use Rattle.equivalence.specs.Compared.{Compared};
@@ -57,6 +58,7 @@ struct Steps<'a> {
     first: &'a [u8; 256],
     m: usize,
     index: &'a [Option<u8>; 256],
+    ghost placed: { Placed table.now first.now index.now m },
 }
 
 impl Steps<'_> {
@@ -64,7 +66,7 @@ impl Steps<'_> {
     // the opposite order. Pairs are counted as if each was compared. Step by step only the latest places that the step must not come before are looked
     // at, and where one is later than its own, the earliest step that it crosses is looked for.
     fn search(&self) -> Comparison
-        requires { Placed self.now.table.now self.now.first.now self.now.index.now self.now.m }
+        requires { WellFormed self.now.table.now }
         ensures { Found (search_of self.now.table.now self.now.first.now (place_in self.now.index.now self.now.first.now) self.now.m) result }
     {
         let mut latest = Latest::new();
@@ -84,7 +86,7 @@ impl Steps<'_> {
 
     // The earliest step that step j crosses.
     fn earliest(&self, j: usize) -> Option<usize>
-        requires { Placed self.now.table.now self.now.first.now self.now.index.now self.now.m × (j < self.now.m) }
+        requires { WellFormed self.now.table.now × (j < self.now.m) }
         ensures { FirstOf (λ i. crosses self.now.table.now self.now.first.now (place_in self.now.index.now self.now.first.now) i j) j result }
     {
         for i in 0..j {
@@ -97,7 +99,7 @@ impl Steps<'_> {
 
     // Whether the steps i and j are dependent and have places in the opposite order.
     fn cross(&self, i: usize, j: usize) -> bool
-        requires { Placed self.now.table.now self.now.first.now self.now.index.now self.now.m × (i < j) × (j < self.now.m) }
+        requires { WellFormed self.now.table.now × (i < j) × (j < self.now.m) }
         ensures { result ≡ crosses self.now.table.now self.now.first.now (place_in self.now.index.now self.now.first.now) i j }
     {
         if self.place(j) < self.place(i) {
@@ -110,7 +112,7 @@ impl Steps<'_> {
 
     // The place of step i.
     fn place(&self, i: usize) -> u8
-        requires { Placed self.now.table.now self.now.first.now self.now.index.now self.now.m × (i < self.now.m) }
+        requires { i < self.now.m }
         ensures { result ≡ place_in self.now.index.now self.now.first.now i }
     {
         self.index[usize::from(self.first[i])].unwrap()

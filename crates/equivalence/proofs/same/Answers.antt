@@ -9,11 +9,14 @@ returns-then-lacks c =
     names-differ x.table.now x.first.now x.second.now x.m c.requires c.indexed-index.result c.indexed-index.ensures
     c.lacks.result c.lacks.ensures c.if-lacks.true
 
-pub search-requires : goal.search-requires
-search-requires c =
+pub invariant_of-steps : goal.invariant_of-steps
+invariant_of-steps c =
     let x = c.args in
-    names-placed x.table.now x.first.now x.second.now x.m c.requires c.indexed-index.result c.indexed-index.ensures
-    c.lacks.result c.lacks.ensures c.if-lacks.false
+    record {
+      placed =
+          names-placed x.table.now x.first.now x.second.now x.m c.requires c.indexed-index.result c.indexed-index.ensures
+          c.lacks.result c.lacks.ensures c.if-lacks.false;
+    }
 
 pub returns : goal.returns
 returns c =

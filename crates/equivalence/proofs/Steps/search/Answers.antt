@@ -10,18 +10,18 @@ loop-j-init c =
 pub unwrap-i-requires : goal.unwrap-i-requires
 unwrap-i-requires c =
     let x = c.args.self.now in
-    is-crossed x.table.now x.first.now x.index.now x.m c.requires c.loop-j.invariant c.loop-j-test.true c.from-name.ensures
+    is-crossed x.table.now x.first.now x.index.now x.m c.requires x.placed c.loop-j.invariant c.loop-j-test.true c.from-name.ensures
     (rw c.place-place.ensures at c.pass-met.ensures) (rw c.place-place.ensures at c.if-place-met.true) c.earliest.result c.earliest.ensures
 
 pub returns-then-place-met : goal.returns-then-place-met
 returns-then-place-met c =
     let x = c.args.self.now in
-    search-finds x.table.now x.first.now x.index.now x.m c.requires c.loop-j.invariant c.loop-j-test.true c.from-name.ensures
+    search-finds x.table.now x.first.now x.index.now x.m c.requires x.placed c.loop-j.invariant c.loop-j-test.true c.from-name.ensures
     (rw c.place-place.ensures at c.pass-met.ensures) (rw c.place-place.ensures at c.if-place-met.true) c.earliest.ensures c.unwrap-i.ensures
 
 pub loop-j-preserved : goal.loop-j-preserved
 loop-j-preserved c =
     let x = c.args.self.now in
-    search-next x.table.now x.first.now x.index.now x.m c.requires c.loop-j.invariant c.loop-j-test.true c.from-name.ensures
+    search-next x.table.now x.first.now x.index.now x.m c.requires x.placed c.loop-j.invariant c.loop-j-test.true c.from-name.ensures
     (rw c.place-place.ensures at c.pass-met.ensures) c.pass-met.new.self.posts_long c.pass-met.new.self.looks_long
     (rw c.place-place.ensures at c.if-place-met.false)
