@@ -46,14 +46,14 @@ pub fn awaited(seen: Option<Found>) -> Result<(), Hold>
     }
 }
 
-// The first listed number that has a value.
-fn first<F: Fn(usize) -> Option<u32>>(list: Numbers, value: F) -> Option<Found>
-    requires { (i : ℕ) → i < list.count → F.pre value (number_at list i) }
-    ensures { (test : ℕ → Bool) (value_of : ℕ → ℕ) → Gives (F.post value) test value_of list
-        → seen_of result ≡ first_seen test value_of 1 (listed list) }
+// The first listed number at which a look gives a value.
+fn first<F: Fn(usize) -> Option<u32>>(list: Numbers, look: F) -> Option<Found>
+    requires { (i : ℕ) → i < list.count → F.pre look (number_at list i) }
+    ensures { (test : ℕ → Bool) (value : ℕ → ℕ) → Gives (F.post look) test value list
+        → seen_of result ≡ first_seen test value 1 (listed list) }
 {
     for (i, number) in list.all.iter().take(list.count).enumerate() {
-        if let Some(value) = value(*number) {
+        if let Some(value) = look(*number) {
             return Some(Found {
                 place: i + 1,
                 number: *number,
