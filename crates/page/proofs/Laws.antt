@@ -16,7 +16,7 @@ use Rattle.state.specs.declared.Actor.{Actor}
 use Rattle.state.specs.State.{record_of, records_of, site_of, fresh_actor}
 use Rattle.readiness.specs.Parts.{site_with}
 use Rattle.readiness.proofs.Laws.{step-looks}
-use Rattle.page.specs.Parts.{status_from, page_from}
+use Rattle.page.specs.Parts.{status_from, line_at, page_from}
 
 -- an actor's status, by its record
 module _ (table : List ℕ) (actors : List Actor) (comms queues : List ℕ) where
@@ -36,15 +36,13 @@ module _ (table : List ℕ) (actors : List Actor) (comms queues : List ℕ) wher
       (status-from log ends journal a ∙ sym (status-from [] [] [] a)))
 
   -- line by line
-  abbrev pub line_from : ℕ → List ℕ
-  line_from a = line (actor_text a (records_of actors a) (status_of table (site_with actors comms queues [] [] []) a))
-
-  pub page-lines : page_from table actors comms queues ≡ parts line_from (actors_of table) 0
-  unfolding page
+  pub page-lines : page_from table actors comms queues ≡ parts (line_at table actors comms queues) (actors_of table) 0
+  unfolding page line_at
   page-lines = refl
 
   pub line-from : (a : ℕ) (r : Actor) → r ≡ get_or actors a fresh_actor → (t : Status) → t ≡ status_from table a r comms queues
-      → line (actor_text a (record_of r) t) ≡ line_from a
+      → line (actor_text a (record_of r) t) ≡ line_at table actors comms queues a
+  unfolding line_at
   line-from a r same t status =
       let right : t ≡ status_of table (site_with actors comms queues [] [] []) a =
       status ∙ ap (λ (x : Actor). status_from table a x comms queues) same ∙ sym (status-from [] [] [] a) in

@@ -2,9 +2,10 @@
 -- Assumes nothing: these are definitions.
 use Rattle.std.specs.Prelude.{ℕ, ◌≤◌, cond, List, [], ltb, length}
 use Rattle.table.specs.Format.{count_of}
+use Rattle.model.specs.Text.{line}
 use Rattle.model.specs.Page as Model
 use Rattle.state.specs.declared.Actor.{Actor}
-use Rattle.state.specs.State.{Positions}
+use Rattle.state.specs.State.{records_of, Positions}
 use Rattle.readiness.specs.Parts.{Answerable, site_with, step_from}
 use Rattle.page.specs.declared.Status.{Status}
 use Rattle.page.specs.declared.Status.TheVariants as case
@@ -20,7 +21,11 @@ abbrev pub status_from : List ℕ → ℕ → Actor → (comms queues : List ℕ
 status_from table a r comms queues =
     cond (ltb r.position (count_of table a)) (Model.step_status (step_from table a r comms queues [] [])) Model.finished
 
--- the page of the state in the arrays: the ports' logs and the journal play no part in it
+-- an actor's line, and the page of the state in the arrays: the ports' logs and the journal play no part in it
+unfoldable pub line_at : List ℕ → List Actor → (comms queues : List ℕ) → ℕ → List ℕ
+line_at table actors comms queues a =
+    line (Model.actor_text a (records_of actors a) (Model.status_of table (site_with actors comms queues [] [] []) a))
+
 abbrev pub page_from : List ℕ → List Actor → (comms queues : List ℕ) → List ℕ
 page_from table actors comms queues = Model.page table (site_with actors comms queues [] [] [])
 
