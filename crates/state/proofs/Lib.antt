@@ -1,4 +1,3 @@
 -- Laws of the arrays that belong to no one function.
-pub mod Within
 pub mod Queued
 pub mod Stored
