@@ -51,6 +51,9 @@ const CODES: [[Compared; 12]; 12] = [
     [No, No, No, No, No, No, No, No, No, No, No, Always], // Note
 ];
 
+// The same in memory: a constant array of an enum is built anew at each use.
+static CODES_KEPT: [[Compared; 12]; 12] = CODES;
+
 // Whether two steps of the table, actor·action each, are dependent.
 pub fn dependent(table: &[u8], a: usize, k: usize, b: usize, l: usize) -> bool
     requires { WellFormed table.now × Stands table.now (name a k) × Stands table.now (name b l) }
@@ -74,7 +77,7 @@ pub fn dependent(table: &[u8], a: usize, k: usize, b: usize, l: usize) -> bool
 fn code(i: Kind, j: Kind) -> Compared
     ensures { (result ≡ code_of i j) × (result ≡ code_of j i) }
 {
-    CODES[i.number()][j.number()]
+    CODES_KEPT[i.number()][j.number()]
 }
 
 // What a code compares of x, of actor a, and y.

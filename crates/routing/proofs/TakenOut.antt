@@ -1,17 +1,18 @@
 -- A step taken out of what is left, by its place there: by the bytes as by the names.
 -- Assumes nothing.
-use Prim.Native.Nat.{ℕ, suc, ◌+◌, ◌-◌, ◌<◌}
-use native.Mathlib.Numerals.{add-one, one-add}
+use Prim.Native.Nat.{ℕ, suc, ◌<◌}
+use native.Mathlib.Nat.{sub-zero}
+use native.Mathlib.Numerals.{one-add}
 use native.Mathlib.Omega.{arith}
-use mathlib.Core.Path.{◌≡◌, refl, ◌∙◌, ap, ap₂, sym, subst}
+use mathlib.Core.Path.{◌≡◌, refl, ◌∙◌, ap, sym}
 use mathlib.Core.Bool.{true, false, false≢true}
 use mathlib.Core.Logic.{◌⊎◌, inl, inr}
 use mathlib.Core.List.{List, [], ◌∷◌, ◌++◌, map}
 use borrow.Author.Tests.{eqb-true, eqb-false, lt-ltb}
 use lib.Dec.{eqb}
-use lib.ListN.{length, get_or, take, drop, length-append, length-drop}
-use lib.Seq.{length-take-le, take-suc, take-append_seam, drop-append_seam}
-use Rattle.std.specs.List.{position_or_len, position}
+use lib.ListN.{length, take, drop, length-append, length-drop}
+use lib.Seq.{length-take-le}
+use Rattle.std.specs.List.{position_or_len, position, copy_within}
 use Rattle.std.specs.declared.option.Option.{Option}
 use Rattle.std.specs.declared.option.Option.TheVariants.{Some}
 use Rattle.trace.specs.Order.{eq_name, mem}
@@ -54,27 +55,14 @@ found y l r m e =
     let t = taken-out y l m in
     e ∙ rw (t.0, lt-ltb (place_in y l) (length l) t.1)
 
--- what is left once its first p + 1 bytes are turned by one place
-pub turned : (p : ℕ) (l part : List ℕ) → p < length l
-    → part ≡ drop (length (take (p + 1) l) - 1) (take (p + 1) l) ++ take (length (take (p + 1) l) - 1) (take (p + 1) l)
-    → part ≡ get_or l p 0 ∷ take p l
-turned p l part h e =
-    let long : length (take (p + 1) l) - 1 ≡ p = omega (arith, length-take-le (p + 1) l (omega arith)) in
-    let front : length (take p l) ≡ p = length-take-le p l (omega arith) in
-    let split : take (p + 1) l ≡ take p l ++ (get_or l p 0 ∷ []) = rw add-one (take-suc l p 0 h) in
-    e ∙ rw (long, split) (ap₂ {C = List ℕ} ◌++◌ (subst (λ n. drop n (take p l ++ (get_or l p 0 ∷ [])) ≡ get_or l p 0 ∷ []) front (drop-append_seam (take p l) (get_or l p 0 ∷ [])))
-    (subst (λ n. take n (take p l ++ (get_or l p 0 ∷ [])) ≡ take p l) front (take-append_seam (take p l) (get_or l p 0 ∷ []))))
-
-pub brought : (y : ℕ) (l part : List ℕ) (way : ℕ) → held y l → way ≡ place_in y l
-    → part ≡ drop (length (take (way + 1) l) - 1) (take (way + 1) l) ++ take (length (take (way + 1) l) - 1) (take (way + 1) l)
-    → Brought l (part ++ drop (way + 1) l) y way
-brought y l part way m e f =
-    let t = taken-out y l m in
-    let now : part ≡ get_or l way 0 ∷ take way l = turned way l part (rw e t.1) f in
+pub brought : (y : ℕ) (l now : List ℕ) (way : ℕ) → held y l → way ≡ place_in y l → now ≡ copy_within l 0 way 1 → Brought l now y way
+brought y [] now way m e f = absurd (false≢true m)
+brought y (b ∷ l) now way m e f =
+    let t = taken-out y (b ∷ l) m in
+    let inside : way < length (b ∷ l) = rw e t.1 in
+    let moved : now ≡ b ∷ take way (b ∷ l) ++ drop (suc way) (b ∷ l) = f ∙ rw (sub-zero, one-add) in
     record {
-      long =
-          let inside : way < length l = rw e t.1 in
-          rw now (simp (length-append, length-drop) (omega (arith, length-take-le way l (omega arith))));
+      long = ap length moved ∙ simp (length-append, length-drop) (omega (arith, length-take-le way (b ∷ l) (omega arith)));
       before = e;
-      behind = rw (now, add-one, e) t.2;
+      behind = rw (moved, e) t.2;
     }

@@ -27,13 +27,13 @@ pub fn route(first: &[u8; 256], second: &[u8; 256], m: usize, positions: &mut [u
     n
 }
 
-// Brings the step y to the front of what is left: the steps before it move back by one. How many they are.
+// Takes the step y out of what is left: the steps before it move back by one, over it. How many they are.
 fn bring(left: &mut [u8], y: u8) -> usize
     requires { mem (name_of y) (map name_of left.old) ≡ true }
     ensures { Brought left.old left.new y result }
 {
     let way = left.iter().position(|x| *x == y).unwrap();
-    left[..=way].rotate_right(1);
+    left.copy_within(..way, 1);
     way
 }
 

@@ -1,4 +1,4 @@
--- `routing::bring` meets its contract: the step's place is found, and the steps up to it are turned by one place.
+-- `routing::bring` meets its contract: the step's place is found, and the steps before it are moved.
 -- Assumes nothing.
 use mathlib.Core.Path.{◌≡◌, refl}
 use borrow.Author.Tests.{tests}
@@ -20,4 +20,4 @@ returns c =
     let x = c.args in
     let e : c.position.result ≡ Some (place_in x.y x.left.now) = found x.y x.left.now c.position.result c.requires
     (position_from_yields_List (λ b. nat_eq b x.y) _ _ c.position.result c.position.ensures.ran (YieldsList-from_slice x.left.now cc) (λ b t q k. search (rules, tests))) in
-    brought x.y x.left.now c.rotate_right.new.self c.unwrap-way.result c.requires (cc) c.rotate_right.ensures.after
+    brought x.y x.left.now c.copy_within.new.self c.unwrap-way.result c.requires (cc) c.copy_within.ensures.after
