@@ -16,8 +16,8 @@ abbrev pub Room : List ℕ → ℕ → Type 0
 Room b at = (at + 8 ≤ length b) × (length b ≤ table_most)
 
 -- by kind: what p lies under; what q does where the kind has no list, 0 for a list; and what b4 to b7 as one number are at most
-abbrev pub p_under : List ℕ → List ℕ
-p_under b = 8 ∷ 8 ∷ 8 ∷ mailboxes_of b ∷ mailboxes_of b ∷ 8 ∷ 8 ∷ mutexes_of b ∷ mutexes_of b ∷ 8 ∷ 8 ∷ 8 ∷ []
+abbrev pub p_under : (mailboxes mutexes : ℕ) → List ℕ
+p_under m x = 8 ∷ 8 ∷ 8 ∷ m ∷ m ∷ 8 ∷ 8 ∷ x ∷ x ∷ 8 ∷ 8 ∷ 8 ∷ []
 
 abbrev pub q_under : List ℕ
 q_under = 1 ∷ 8 ∷ 8 ∷ 8 ∷ 8 ∷ 0 ∷ 0 ∷ 1 ∷ 1 ∷ 0 ∷ 0 ∷ 1 ∷ []
@@ -27,8 +27,9 @@ value_most = 4294967295 ∷ 0 ∷ 0 ∷ 0 ∷ 0 ∷ 0 ∷ 0 ∷ 0 ∷ 0 ∷ 0 �
 
 -- what the checks of a table's actions go by
 pub record LimitsOf (b : List ℕ) (limits : Limits) : Type 0 where
+  pub mailboxes : limits.mailboxes ≡ mailboxes_of b
   pub mutexes : limits.mutexes ≡ mutexes_of b
-  pub p : limits.p ≡ p_under b
+  pub p : limits.p ≡ p_under (mailboxes_of b) (mutexes_of b)
   pub q : limits.q ≡ q_under
   pub value : limits.value ≡ value_most
 
@@ -39,7 +40,7 @@ pub record Listed (b : List ℕ) (at : ℕ) (list : List ℕ) : Type 0 where
 
 -- an action without a list that has nothing wrong
 pub record Plain (b : List ℕ) (at : ℕ) : Type 0 where
-  pub p-under : p_at b at < get_or (p_under b) (kind_at b at) 0
+  pub p-under : p_at b at < get_or (p_under (mailboxes_of b) (mutexes_of b)) (kind_at b at) 0
   pub q-under : q_at b at < get_or q_under (kind_at b at) 0
   pub z-none : z_at b at ≡ 0
   pub value-most : value_at b at ≤ get_or value_most (kind_at b at) 0
