@@ -10,21 +10,13 @@ use Rattle.std.proofs.Common.{Option, Some, None}
 use Rattle.std.specs.List.{list_any}
 use Rattle.trace.specs.Order.{mem, within}
 use Rattle.trace.specs.Route.{place}
-use Rattle.trace.proofs.Bools.{contrary}
+use Rattle.trace.proofs.Bools.{contrary, or-false-left, or-false-right}
 use Rattle.names.specs.InByte.{name_of}
 use Rattle.names.specs.Names.{names_in}
 use Rattle.names.specs.Steps.{Each}
 use Rattle.equivalence.specs.Compared.{Compared}
 use Rattle.equivalence.specs.Parts.{absent, place_of, place_in, Indexed}
 use Rattle.equivalence.proofs.Places.{last-absent, last-present}
-
-or-false_left : (a b : Bool) → (a || b) ≡ false → a ≡ false
-or-false_left true b e = e
-or-false_left false b e = refl
-
-or-false_right : (a b : Bool) → (a || b) ≡ false → b ≡ false
-or-false_right true b e = contrary refl e
-or-false_right false b e = e
 
 -- ---- the first m bytes of a list
 
@@ -36,8 +28,8 @@ each-taken P (suc m) (b ∷ l) h = (h 0 (omega arith), each-taken P m l (λ i lt
 none-taken : (f : ℕ → Bool) (m : ℕ) (l : List ℕ) → list_any f (take m l) ≡ false → (i : ℕ) → i < m → i < length l → f (get_or l i 0) ≡ false
 none-taken f zero l n i h k = absurd (omega arith)
 none-taken f (suc m) [] n i h k = absurd (omega arith)
-none-taken f (suc m) (b ∷ l) n zero h k = or-false_left (f b) (list_any f (take m l)) n
-none-taken f (suc m) (b ∷ l) n (suc i) h k = none-taken f m l (or-false_right (f b) (list_any f (take m l)) n) i (omega arith) (omega arith)
+none-taken f (suc m) (b ∷ l) n zero h k = or-false-left (f b) (list_any f (take m l)) n
+none-taken f (suc m) (b ∷ l) n (suc i) h k = none-taken f m l (or-false-right (f b) (list_any f (take m l)) n) i (omega arith) (omega arith)
 
 module _ (table first second : List ℕ) (m : ℕ) (compared : Compared table first second m) (index : List (Option ℕ)) (indexed : Indexed second m index) where
   fits : m ≤ length second

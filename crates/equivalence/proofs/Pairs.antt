@@ -22,7 +22,7 @@ use Rattle.names.proofs.NamedBytes.{entry_named, before-named}
 use Rattle.equivalence.specs.Compared.{Compared}
 use Rattle.equivalence.specs.Parts.{absent, place_in, crosses, search_of, Placed}
 
-module _ (table first second : List ℕ) (m : ℕ) (compared : Compared table first second m) (index : List (Option ℕ)) (long : length index ≡ 256)
+module _ (table first second : List ℕ) (m : ℕ) (compared : Compared table first second m) (index : List (Option ℕ))
     (found : (i : ℕ) → i < m
     → (absent index (get_or first i 0) ≡ false) × (mem (name_of (get_or first i 0)) (names_in m second) ≡ true)
     × (place_in index first i ≡ place (name_of (get_or first i 0)) (names_in m second)))
@@ -41,8 +41,6 @@ module _ (table first second : List ℕ) (m : ℕ) (compared : Compared table fi
     pub placed : Placed table first index m
     placed =
         record {
-          first-long = compared.first-long;
-          index-long = long;
           most = compared.most;
           stand = compared.stand;
           there = λ i h. (found i h).0;

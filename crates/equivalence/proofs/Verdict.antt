@@ -35,14 +35,14 @@ module _ (table first second : List ℕ) (m : ℕ) (compared : Compared table fi
     module _ (f : r ≡ false) where
       pub names-placed : Placed table first index m
       names-placed =
-          placed table first second m compared index indexed.long
+          placed table first second m compared index
           (all_placed table first second m compared index indexed (sym e ∙ f))
 
       pub names-agree : (c : Comparison) → Found (search_of table first (place_in index first) m) c → Judges (depends table) (names_in m first) (names_in m second) c
       names-agree c s =
           let has_all : within (names_in m first) (names_in m second) ≡ true = sym found ∙ ap not f in
           let named =
-          search-named table first second m compared index indexed.long
+          search-named table first second m compared index
           (all_placed table first second m compared index indexed (sym e ∙ f)) in
           record {
             verdict =

@@ -41,8 +41,6 @@ search_of table first place m = search (crosses table first place) m
 
 -- m steps of the table, each with a place, and those of one actor have rising ones
 pub record Placed (table first : List ℕ) (index : List (Option ℕ)) (m : ℕ) : Type 0 where
-  pub first-long : length first ≡ 256
-  pub index-long : length index ≡ 256
   pub most : m ≤ 256
   pub stand : (i : ℕ) → i < m → Stands table (name_of (get_or first i 0))
   pub there : (i : ℕ) → i < m → absent index (get_or first i 0) ≡ false

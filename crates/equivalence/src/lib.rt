@@ -34,7 +34,7 @@ pub fn same(table: &[u8], first: &[u8; 256], second: &[u8; 256], m: usize) -> Co
 
 // For each name its place among the first m of the second list.
 fn indexed(second: &[u8; 256], m: usize) -> [Option<u8>; 256]
-    requires { (length second.now ≡ 256) × (m ≤ 256) }
+    requires { m ≤ 256 }
     ensures { Indexed second.now m result }
 {
     let mut index = [None; 256];
