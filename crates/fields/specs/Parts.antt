@@ -6,6 +6,7 @@ use Rattle.table.specs.Format.{mailboxes_of, mutexes_of, kind_at, p_at, q_at, z_
 use Rattle.table.specs.Kinds.{actions}
 use Rattle.table.specs.Read.{list_fits}
 use Rattle.fields.specs.declared.Limits.{Limits}
+use Rattle.fields.specs.declared.Row.{Row}
 
 -- the most bytes that a table has: 8 actors with 32 actions each
 abbrev pub table_most : ℕ
@@ -16,22 +17,33 @@ abbrev pub Room : List ℕ → ℕ → Type 0
 Room b at = (at + 8 ≤ length b) × (length b ≤ table_most)
 
 -- by kind: what p lies under; what q does where the kind has no list, 0 for a list; and what b4 to b7 as one number are at most
-abbrev pub p_under : (mailboxes mutexes : ℕ) → List ℕ
-p_under m x = 8 ∷ 8 ∷ 8 ∷ m ∷ m ∷ 8 ∷ 8 ∷ x ∷ x ∷ 8 ∷ 8 ∷ 8 ∷ []
+abbrev pub row : (p q value : ℕ) → Row
+row p q value = record { p = p; q = q; value = value }
 
-abbrev pub q_under : List ℕ
-q_under = 1 ∷ 8 ∷ 8 ∷ 8 ∷ 8 ∷ 0 ∷ 0 ∷ 1 ∷ 1 ∷ 0 ∷ 0 ∷ 1 ∷ []
+abbrev pub rows_of : (mailboxes mutexes : ℕ) → List Row
+rows_of m x =
+    row 8 1 4294967295
+    ∷ row 8 8 0
+    ∷ row 8 8 0
+    ∷ row m 8 0
+    ∷ row m 8 0
+    ∷ row 8 0 0
+    ∷ row 8 0 0
+    ∷ row x 1 0
+    ∷ row x 1 0
+    ∷ row 8 0 0
+    ∷ row 8 0 0
+    ∷ row 8 1 0
+    ∷ []
 
-abbrev pub value_most : List ℕ
-value_most = 4294967295 ∷ 0 ∷ 0 ∷ 0 ∷ 0 ∷ 0 ∷ 0 ∷ 0 ∷ 0 ∷ 0 ∷ 0 ∷ 0 ∷ []
+abbrev pub row_of : List ℕ → ℕ → Row
+row_of b kind = get_or (rows_of (mailboxes_of b) (mutexes_of b)) kind (row 0 0 0)
 
 -- what the checks of a table's actions go by
 pub record LimitsOf (b : List ℕ) (limits : Limits) : Type 0 where
   pub mailboxes : limits.mailboxes ≡ mailboxes_of b
   pub mutexes : limits.mutexes ≡ mutexes_of b
-  pub p : limits.p ≡ p_under (mailboxes_of b) (mutexes_of b)
-  pub q : limits.q ≡ q_under
-  pub value : limits.value ≡ value_most
+  pub rows : limits.rows ≡ rows_of (mailboxes_of b) (mutexes_of b)
 
 -- the numbers that an action lists, from one to four
 pub record Listed (b : List ℕ) (at : ℕ) (list : List ℕ) : Type 0 where
@@ -40,7 +52,7 @@ pub record Listed (b : List ℕ) (at : ℕ) (list : List ℕ) : Type 0 where
 
 -- an action without a list that has nothing wrong
 pub record Plain (b : List ℕ) (at : ℕ) : Type 0 where
-  pub p-under : p_at b at < get_or (p_under (mailboxes_of b) (mutexes_of b)) (kind_at b at) 0
-  pub q-under : q_at b at < get_or q_under (kind_at b at) 0
+  pub p-under : p_at b at < (row_of b (kind_at b at)).p
+  pub q-under : q_at b at < (row_of b (kind_at b at)).q
   pub z-none : z_at b at ≡ 0
-  pub value-most : value_at b at ≤ get_or value_most (kind_at b at) 0
+  pub value-most : value_at b at ≤ (row_of b (kind_at b at)).value

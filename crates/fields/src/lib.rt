@@ -7,19 +7,33 @@ ghost use Rattle.table.specs.Format.{byte_at, q_at, place_of};
 ghost use Rattle.table.specs.Kinds.{kind_number, form_of, nothing as none, actions, mutexes as some_mutexes};
 ghost use Rattle.table.specs.Read.{check_of, fields_of, blanks, rest_clear, list_fits, list_allowed, communication_kind};
 ghost use Rattle.table.specs.Answer.{outcome, fault_of};
-ghost use Rattle.fields.specs.Parts.{Room, LimitsOf, Plain, Listed, p_under};
+ghost use Rattle.fields.specs.Parts.{Room, LimitsOf, Plain, Listed, row, rows_of};
 
 use table::{Fault, Kind, bytes, demand};
 
-// What the checks of a table's actions go by, made once. For the quick test, by kind: what p lies under, what q does where the kind has no list, and
-// what b4 to b7 as one number are at most; nothing lies under 0, so that a list is looked at by itself.
+// What the quick test asks of an action of a kind: what p and q lie under, and what b4 to b7 as one number are at most. Nothing lies under 0, so
+// that a list is looked at by itself.
+#[derive(Clone, Copy)]
+struct Row {
+    p: u8,
+    q: u8,
+    value: u32,
+}
+
+impl Row {
+    fn new(p: u8, q: u8, value: u32) -> Row
+        ensures { result ≡ row p q value }
+    {
+        Row { p, q, value }
+    }
+}
+
+// What the checks of a table's actions go by, made once: its numbers of mailboxes and mutexes, and the quick test's rows by kind.
 #[derive(Clone, Copy)]
 pub struct Limits {
     mailboxes: u8,
     mutexes: u8,
-    p: [u8; 12],
-    q: [u8; 12],
-    value: [u32; 12],
+    rows: [Row; 12],
 }
 
 impl Limits {
@@ -28,20 +42,31 @@ impl Limits {
         requires { 4 ≤ length table.now }
         ensures { LimitsOf table.now result }
     {
-        let m = table[2];
-        let x = table[3];
+        let mailboxes = table[2];
+        let mutexes = table[3];
         Limits {
-            mailboxes: m,
-            mutexes: x,
-            p: [8, 8, 8, m, m, 8, 8, x, x, 8, 8, 8],
-            q: [1, 8, 8, 8, 8, 0, 0, 1, 1, 0, 0, 1],
-            value: [u32::MAX, 0, 0, 0, 0, 0, 0, 0, 0, 0, 0, 0],
+            mailboxes,
+            mutexes,
+            rows: [
+                Row::new(8, 1, u32::MAX), // Set
+                Row::new(8, 8, 0), // Add
+                Row::new(8, 8, 0), // Lesser
+                Row::new(mailboxes, 8, 0), // Send
+                Row::new(mailboxes, 8, 0), // Receive
+                Row::new(8, 0, 0), // TestAny
+                Row::new(8, 0, 0), // WaitAny
+                Row::new(mutexes, 1, 0), // Lock
+                Row::new(mutexes, 1, 0), // Unlock
+                Row::new(8, 0, 0), // MutexTest
+                Row::new(8, 0, 0), // MutexWait
+                Row::new(8, 1, 0), // Note
+            ],
         }
     }
 
-    // What p of a kind lies under. By a match, since taken from `p` it makes the quick test a fifth slower.
+    // What p of a kind lies under. By a match, since taken from its row it makes the quick test a fifth slower.
     fn under(&self, kind: Kind) -> u8
-        ensures { result ≡ get_or (p_under self.now.mailboxes self.now.mutexes) (kind_number kind) 0 }
+        ensures { result ≡ (get_or (rows_of self.now.mailboxes self.now.mutexes) (kind_number kind) (row 0 0 0)).p }
     {
         match kind {
             Kind::Send | Kind::Receive => self.mailboxes,
@@ -69,11 +94,11 @@ fn plain(t: &[u8], at: usize, limits: &Limits) -> bool
     ensures { IsTrue result → Plain t.now at }
 {
     let kind = usize::from(t[at]);
-    kind < limits.p.len()
-        && t[at + 1] < limits.p[kind]
-        && t[at + 2] < limits.q[kind]
+    kind < limits.rows.len()
+        && t[at + 1] < limits.rows[kind].p
+        && t[at + 2] < limits.rows[kind].q
         && t[at + 3] == 0
-        && bytes::long(t, at + 4) <= limits.value[kind]
+        && bytes::long(t, at + 4) <= limits.rows[kind].value
 }
 
 // An action, by its kind.
