@@ -8,8 +8,8 @@ ghost use Rattle.execution.specs.Parts.{Executed};
 use answers::Refusal;
 use state::Actor;
 
-// The actors' records at the schedule's end, or what is refused. The arrays come fresh, and hold the end state where the schedule's end is reached; `names`
-// then holds the names of the steps run.
+// The actors' records at the schedule's end, or what is refused. The arrays come fresh, and hold the end state where that end is reached; `names` then
+// holds the names of the steps run.
 pub fn execute(
     table: &[u8],
     schedule: &[u8],
@@ -25,7 +25,8 @@ pub fn execute(
         queues.new journal.new names.new result }
 {
     reader::read(table)?;
-    let played = play::play(table, schedule, comms, log, ends, queues, journal, names)
-        .map_err(Refusal::First)?;
+    let played = play::play(table, schedule, comms, log, ends, queues, journal, names).map_err(
+        Refusal::First,
+    )?;
     Ok(played.actors)
 }

@@ -15,7 +15,7 @@ pub struct Played {
     pub actors: [Actor; 8],
 }
 
-// Plays a lent schedule. The arrays come fresh, and hold the end state where the schedule is played to its end; `names` then holds the names of the steps run.
+// Plays a lent schedule. The arrays come fresh, and hold the end state where it is played to its end; `names` then holds the names of the steps run.
 pub fn play(
     table: &[u8],
     schedule: &[u8],

@@ -40,7 +40,7 @@ fn draw(x: u32) -> u32
     product(1664525, x).wrapping_add(1013904223)
 }
 
-// The product modulo 2^32.
+// The product modulo 2^32. No `wrapping_mul` and its one cast stay: the product as a helper with a modular proof is a rule of the project.
 fn product(x: u32, y: u32) -> u32
     ensures { result ≡ x * y % 2 ^ 32 }
 {

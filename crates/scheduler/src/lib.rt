@@ -47,6 +47,7 @@ fn write(names: &[u8; 256], n: usize, entries: &mut [u8])
     requires { (length names.now ≡ 256) × (n ≤ 256) × (256 ≤ length entries.old) }
     ensures { entries.new ≡ map (λ (x : ℕ). x / 32) (take n names.now) ++ drop n entries.old }
 {
+    // no `iter_mut().zip(..)`: tried, and after it a proof knows the slice's length alone
     for (i, name) in names[..n].iter().enumerate() {
         entries[i] = *name / 32;
     }
