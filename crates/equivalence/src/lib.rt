@@ -62,9 +62,9 @@ struct Steps<'a> {
 }
 
 impl Steps<'_> {
-    // The search through the pairs of steps: by rising later step, then rising earlier step, up to the first two that are dependent and have places in
-    // the opposite order. Pairs are counted as if each was compared. Step by step only the latest places that the step must not come before are looked
-    // at, and where one is later than its own, the earliest step that it crosses is looked for.
+    // The search through the pairs of steps: by rising later step, then rising earlier step, up to the first two that are dependent and have places
+    // in the opposite order. Pairs are counted as if each was compared. Step by step only the latest places that the step must not come before are
+    // looked at, and where one is later than its own, the earliest step that it crosses is looked for.
     fn search(&self) -> Comparison
         requires { WellFormed self.now.table.now }
         ensures { Found (search_of self.now.table.now self.now.first.now (place_in self.now.index.now self.now.first.now) self.now.m) result }

@@ -13,8 +13,8 @@ ghost use Rattle.footprint.specs.Latest.{Posted, Passed, Looked, one_of, Gives};
 
 use table::{Action, Kind, Numbers, within};
 
-// The kinds that post, each with a group of eight resources, one for a mailbox or a mutex; of Notes' one alone is used, the journal. They are numbers and
-// no Kinds, since a resource's number is made of its kind's.
+// The kinds that post, each with a group of eight resources, one for a mailbox or a mutex; of Notes' one alone is used, the journal. They are numbers
+// and no Kinds, since a resource's number is made of its kind's.
 const SEND: usize = Kind::Send as usize;
 
 const RECEIVE: usize = Kind::Receive as usize;
@@ -45,8 +45,8 @@ impl Latest {
         }
     }
 
-    // The latest place of the steps so far that this step must not change places with, 0 where there is none. The step is then one of those so far, with
-    // its own place. A Send, Receive, Lock or Unlock is told by the number of its kind: one test for the four.
+    // The latest place of the steps so far that this step must not change places with, 0 where there is none. The step is then one of those so far,
+    // with its own place. A Send, Receive, Lock or Unlock is told by the number of its kind: one test for the four.
     pub fn pass(&mut self, table: &[u8], a: usize, k: usize, place: u8) -> u8
         requires { WellFormed table.now × Stands table.now (name a k) }
         ensures { Passed table.now (name a k) place self.old.posts self.old.looks self.new.posts self.new.looks result }
@@ -75,8 +75,8 @@ impl Latest {
         }
     }
 
-    // A post to a mailbox's side, a mutex or the journal. It is dependent on the looks at it, and on the posts to it: Unlocks alone are independent of
-    // one another.
+    // A post to a mailbox's side, a mutex or the journal. It is dependent on the looks at it, and on the posts to it: Unlocks alone are independent
+    // of one another.
     fn post(&mut self, kind: usize, number: usize, place: u8) -> u8
         requires { (kind < 12) × (number < 8) }
         ensures posts { Posted kind (resource_of kind number) place self.old.posts self.old.looks self.new.posts result }
