@@ -29,13 +29,13 @@ impl Actor {
     }
 
     // Set, and the writing of a result or of a value that was picked up. Every cell is written, the others with what they hold: a store of
-    // one cell, with the whole record read right after it, is slow.
+    // one cell, with the whole record read right after it, is slow, and an `if` in place of `then_some` is compiled to that.
     pub fn put(mut self, cell: usize, value: u32) -> Self
         requires { (cell < 8) }
         ensures { (result.position ≡ self.position) × (result.cells ≡ set self.cells cell value) }
     {
         for (i, held) in self.cells.iter_mut().enumerate() {
-            *held = if i == cell { value } else { *held };
+            *held = (i == cell).then_some(value).unwrap_or(*held);
         }
         self
     }
