@@ -25,8 +25,6 @@ pub fn execute(
         queues.new journal.new names.new result }
 {
     reader::read(table)?;
-    let played = play::play(table, schedule, comms, log, ends, queues, journal, names).map_err(
-        Refusal::First,
-    )?;
-    Ok(played.actors)
+    let played = play::play(table, schedule, comms, log, ends, queues, journal, names);
+    Ok(played.map_err(Refusal::First)?.actors)
 }
