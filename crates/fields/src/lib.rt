@@ -64,7 +64,7 @@ impl Limits {
         }
     }
 
-    // What p of a kind lies under. By a match, since taken from its row it makes the quick test a fifth slower.
+    // What p of a kind lies under. By a match, since taken from its row it makes the reading a seventh slower.
     fn under(&self, kind: Kind) -> u8
         ensures { result ≡ (get_or (rows_of self.now.mailboxes self.now.mutexes) (kind_number kind) (row 0 0 0)).p }
     {
