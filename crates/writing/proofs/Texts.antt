@@ -22,11 +22,6 @@ wrote-store e s b at x h w =
 -- ---- after a first text was written
 
 module _ (e s : List ℕ) {b : List ℕ} {at : ℕ} (w : Wrote e s b at) where
-  pub wrote_at : length s ≤ length e → at ≤ length b
-  wrote_at h =
-      let same : length b ≡ length e = written-length e s b h w.1 in
-      omega (arith, w.0)
-
   pub wrote-below : length s < length e → at < length b
   wrote-below h =
       let same : length b ≡ length e = written-length e s b (omega arith) w.1 in
