@@ -5,11 +5,11 @@
 ghost use Rattle.std.specs.Prelude.{◌≡◌, ◌∷◌, ℕ, ◌<◌, ◌≤◌, ◌^◌, length, get_or};
 ghost use Rattle.table.specs.Format.{count_of};
 ghost use Rattle.model.specs.Report.{long, parts, actor_bytes, comm_bytes};
-ghost use Rattle.state.specs.State.{records_of, comm_of, CommsRoom, Positions};
+ghost use Rattle.state.specs.State.{records_of, comm_of, Positions};
 ghost use Rattle.writing.specs.Written.{Wrote};
 ghost use Rattle.actor_sections.specs.Parts.{actors_bytes, own_bytes, actions_bytes};
 
-use state::Actor;
+use state::{Actor, Mail};
 use table::access;
 
 // An actor's cells, four bytes each.
@@ -62,22 +62,26 @@ fn comm_part(c: u64, buf: &mut [u8]) -> usize
 }
 
 // One actor's actions.
-fn own_part(comms: &[u64; 256], actor: usize, count: usize, buf: &mut [u8]) -> usize
-    requires { CommsRoom comms.now × (actor < 8) × (count ≤ 32) × (length (own_bytes comms.now actor count) ≤ length buf.old) }
-    ensures { Wrote buf.old (own_bytes comms.now actor count) buf.new result }
+fn own_part(mail: &Mail, actor: usize, count: usize, buf: &mut [u8]) -> usize
+    requires { (actor < 8) × (count ≤ 32) × (length (own_bytes mail.now.comms actor count) ≤ length buf.old) }
+    ensures { Wrote buf.old (own_bytes mail.now.comms actor count) buf.new result }
 {
-    writing::each(count, |k, buf| comm_part(comms[32 * actor + k], buf), buf)
+    writing::each(
+        count,
+        |k, buf| comm_part(mail.comms[32 * actor + k], buf),
+        buf,
+    )
 }
 
 // The actions of each actor.
-pub fn actions_part(table: &[u8], comms: &[u64; 256], actors: usize, buf: &mut [u8]) -> usize
-    requires { CommsRoom comms.now × (actors ≤ 8) × ((a : ℕ) → a < actors → count_of table.now a ≤ 32)
-        × (length (actions_bytes table.now comms.now actors) ≤ length buf.old) }
-    ensures { Wrote buf.old (actions_bytes table.now comms.now actors) buf.new result }
+pub fn actions_part(table: &[u8], mail: &Mail, actors: usize, buf: &mut [u8]) -> usize
+    requires { (actors ≤ 8) × ((a : ℕ) → a < actors → count_of table.now a ≤ 32)
+        × (length (actions_bytes table.now mail.now.comms actors) ≤ length buf.old) }
+    ensures { Wrote buf.old (actions_bytes table.now mail.now.comms actors) buf.new result }
 {
     writing::each(
         actors,
-        |a, buf| own_part(comms, a, access::actions(table, a), buf),
+        |a, buf| own_part(mail, a, access::actions(table, a), buf),
         buf,
     )
 }

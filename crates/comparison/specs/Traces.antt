@@ -23,21 +23,15 @@ pub record Kept (table schedule bytes : List ℕ) : Type 0 where
   pub bytes-long : length bytes ≡ 256
   pub names-right : names_in (length schedule) bytes ≡ names (machine table) initial schedule
 
--- the arrays that one schedule hands on to the next: what they hold plays no part
-pub record Handed (log journal : List ℕ) : Type 0 where
-  pub log-long : length log ≡ 4096
-  pub journal-long : length journal ≡ 257
-
--- a schedule is accepted, its names are kept, and the arrays can be handed on
-pub record Followed (table schedule log journal bytes : List ℕ) : Type 0 where
+-- a schedule is accepted, and its names are kept
+pub record Followed (table schedule bytes : List ℕ) : Type 0 where
   pub checked : (n : RefusalNumbers) → check_schedule n table schedule ≡ accepted
   pub kept : Kept table schedule bytes
-  pub handed : Handed log journal
 
 -- so it is, or the schedule stops as its check refuses it
-abbrev pub Traced : (table schedule log journal bytes : List ℕ) → Result ⊤ Stop → Type 0
-Traced table schedule log journal bytes r =
-    MatchResult r (λ done. Followed table schedule log journal bytes) (λ stop. (n : RefusalNumbers) → check_schedule n table schedule ≡ stop_of n stop)
+abbrev pub Traced : (table schedule bytes : List ℕ) → Result ⊤ Stop → Type 0
+Traced table schedule bytes r =
+    MatchResult r (λ done. Followed table schedule bytes) (λ stop. (n : RefusalNumbers) → check_schedule n table schedule ≡ stop_of n stop)
 
 -- the table and both schedules are accepted
 pub record Judged (table first second first_bytes second_bytes : List ℕ) : Type 0 where

@@ -3,9 +3,11 @@
 
 ghost use Rattle.std.specs.Prelude.{◌≡◌, length};
 ghost use Rattle.table.specs.Promise.{WellFormed};
-ghost use Rattle.comparison.specs.Traces.{Handed, Traced, Judged, Verdict, ComparedRight};
+ghost use Rattle.state.specs.State.{Empty};
+ghost use Rattle.comparison.specs.Traces.{Traced, Judged, Verdict, ComparedRight};
 
 use answers::{Comparison, Refusal, Stop};
+use state::Site;
 
 // Reads the table, steps the first schedule whole and then the second, and judges. `names` and `others` are left with the names of the
 // steps that the two run, where they are the same.
@@ -20,10 +22,10 @@ pub fn compared(
     ensures { ComparedRight table.now first.now second.now names.new others.new result }
 {
     reader::read(table)?;
-    let mut log = [0u8; 4096];
-    let mut journal = [0usize; 257];
-    trace_of(table, first, &mut log, &mut journal, names).map_err(Refusal::First)?;
-    trace_of(table, second, &mut log, &mut journal, others).map_err(Refusal::Second)?;
+    let mut site = Site::fresh();
+    trace_of(table, first, &mut site, names).map_err(Refusal::First)?;
+    site.clear();
+    trace_of(table, second, &mut site, others).map_err(Refusal::Second)?;
     Ok(judge(table, first, second, names, others))
 }
 
@@ -46,30 +48,15 @@ fn judge(
 }
 
 // Steps a schedule from a fresh site, as far as the first entry that is refused. `names` is left with the names of its steps, where it is accepted.
-// The logs and the journal may hold anything.
 fn trace_of(
     table: &[u8],
     schedule: &[u8],
-    log: &mut [u8; 4096],
-    journal: &mut [usize; 257],
+    site: &mut Site,
     names: &mut [u8; 256],
 ) -> Result<(), Stop>
-    requires { WellFormed table.now × Handed log.old journal.old × (length names.old ≡ 256) }
-    ensures { Traced table.now schedule.now log.new journal.new names.new result }
+    requires { WellFormed table.now × Empty site.old × (length names.old ≡ 256) }
+    ensures { Traced table.now schedule.now names.new result }
 {
-    let mut comms = [0u64; 256];
-    let mut ends = [0usize; 32];
-    let mut queues = [0u8; 72];
-    journal[0] = 0;
-    play::play(
-        table,
-        schedule,
-        &mut comms,
-        log,
-        &mut ends,
-        &mut queues,
-        journal,
-        names,
-    )?;
+    play::play(table, schedule, site, names)?;
     Ok(())
 }

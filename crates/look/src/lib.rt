@@ -6,10 +6,10 @@ ghost use Rattle.table.specs.Promise.{number as number_at};
 ghost use Rattle.model.specs.Views.{listed};
 ghost use Rattle.model.specs.Local.{is_seen, first as first_seen};
 ghost use Rattle.model.specs.Step.{taken, waiting};
-ghost use Rattle.state.specs.State.{CommsRoom, QueueRoom, step_as};
+ghost use Rattle.state.specs.State.{step_as};
 ghost use Rattle.look.specs.Parts.{seen_of, done_in, value_in, communications_seen, mutexes_seen, value_if, Gives};
 
-use state::Hold;
+use state::{Hold, Mail, Queues};
 use table::Numbers;
 
 // The first place in a list that is looked for, counted from 1, with the number listed there and the value of that communication (0 for a mutex).
@@ -21,17 +21,17 @@ pub struct Found {
 }
 
 // The first listed communication of an actor that is done.
-pub fn communications(comms: &[u64; 256], a: usize, list: Numbers) -> Option<Found>
-    requires { CommsRoom comms.now × (a < 8) × ((i : ℕ) → i < list.count → number_at list i < 32) }
-    ensures { seen_of result ≡ communications_seen comms.now a 1 (listed list) }
+pub fn communications(mail: &Mail, a: usize, list: Numbers) -> Option<Found>
+    requires { (a < 8) × ((i : ℕ) → i < list.count → number_at list i < 32) }
+    ensures { seen_of result ≡ communications_seen mail.now.comms a 1 (listed list) }
 {
-    first(list, |k| done(comms, a, k))
+    first(list, |k| done(mail, a, k))
 }
 
 // The first listed mutex that an actor owns.
-pub fn mutexes(queues: &[u8; 72], a: usize, list: Numbers) -> Option<Found>
-    requires { QueueRoom queues.now × ((i : ℕ) → i < list.count → number_at list i < 8) }
-    ensures { seen_of result ≡ mutexes_seen queues.now a 1 (listed list) }
+pub fn mutexes(queues: &Queues, a: usize, list: Numbers) -> Option<Found>
+    requires { (i : ℕ) → i < list.count → number_at list i < 8 }
+    ensures { seen_of result ≡ mutexes_seen queues.now.bytes a 1 (listed list) }
 {
     first(list, |m| mutex::owner(queues, m, a).then_some(0))
 }
@@ -65,11 +65,11 @@ fn first<F: Fn(usize) -> Option<u32>>(list: Numbers, look: F) -> Option<Found>
 }
 
 // The value of an actor's communication k, if it is done.
-fn done(comms: &[u64; 256], a: usize, k: usize) -> Option<u32>
-    requires { CommsRoom comms.now × (a < 8) × (k < 32) }
-    ensures { result ≡ value_if (done_in comms.now a) (value_in comms.now a) k }
+fn done(mail: &Mail, a: usize, k: usize) -> Option<u32>
+    requires { (a < 8) × (k < 32) }
+    ensures { result ≡ value_if (done_in mail.now.comms a) (value_in mail.now.comms a) k }
 {
-    let code = comms[32 * a + k];
+    let code = mail.comms[32 * a + k];
     if code % 4 < 2 {
         return None;
     }

@@ -16,7 +16,8 @@ use Rattle.model.specs.Site.{upd, Side, sends, receives, Port, eq_port}
 use Rattle.model.specs.Mail.{at_end}
 use Rattle.model.proofs.Ports.{port-test}
 use Rattle.names.specs.InByte.{name_of}
-use Rattle.state.specs.State.{side_number, port_number, head_in, tail_in, pending_in, waiting_of, LogRoom}
+use Rattle.state.specs.State.{side_number, port_number, pending_in, waiting_of}
+use Rattle.state.specs.Rooms.{head_in, tail_in, LogRoom}
 use Rattle.mail.specs.Parts.{oldest_in, appended, head_on, tail_on}
 use Rattle.state.proofs.Stored.{stored}
 use Rattle.mail.proofs.Changes.{changed-at}

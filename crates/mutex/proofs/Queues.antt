@@ -12,7 +12,8 @@ use lib.Seq.{get_or-take, get_or-drop, take-take, drop-drop}
 use borrow.Author.Tests.{eqb-true, eqb-false, ltb-true, ltb-false}
 use Rattle.trace.proofs.Bools.{which}
 use Rattle.model.specs.Site.{upd}
-use Rattle.state.specs.State.{queued_of, size_in, entries_in, queues_of, QueueRoom}
+use Rattle.state.specs.State.{queued_of, entries_in, queues_of}
+use Rattle.state.specs.Rooms.{size_in, QueueRoom}
 
 -- a part of a list lies within its front
 part-of-front : (i k n : ℕ) (l : List ℕ) → i + k ≤ n → take k (drop i (take n l)) ≡ take k (drop i l)

@@ -13,7 +13,8 @@ use Rattle.std.proofs.lemmas.List.{drop-take}
 use Rattle.model.specs.Site.{Queued, upd}
 use Rattle.model.specs.Mutex.{join, leave}
 use Rattle.model.specs.Depths.{depth_in}
-use Rattle.state.specs.State.{queued_of, size_in, entries_in, queues_of, QueueRoom}
+use Rattle.state.specs.State.{queued_of, entries_in, queues_of}
+use Rattle.state.specs.Rooms.{size_in, QueueRoom}
 use Rattle.state.proofs.Stored.{stored}
 use Rattle.model.proofs.Upd.{upd-self}
 use Rattle.model.proofs.Ports.{number-test}

@@ -5,15 +5,14 @@
 ghost use Rattle.std.specs.Prelude.{◌≡◌, ◌∷◌, ◌<◌, ◌≤◌, length};
 ghost use Rattle.model.specs.Report.{parts};
 ghost use Rattle.model.specs.Text.{space, left, line};
-ghost use Rattle.model.specs.Page.{status_word, cells_text, actor_text};
-ghost use Rattle.state.specs.State.{record_of};
-ghost use Rattle.state.specs.State.{Positions};
+ghost use Rattle.model.specs.Page.{status_word, cells_text, actor_text, page};
+ghost use Rattle.state.specs.State.{record_of, site_of, Positions};
 ghost use Rattle.table.specs.Format.{actors_of};
 ghost use Rattle.readiness.specs.Parts.{Answerable, Looked};
 ghost use Rattle.writing.specs.Written.{Wrote};
-ghost use Rattle.page.specs.Parts.{status_as, status_from, line_at, page_from, Pageable};
+ghost use Rattle.page.specs.Parts.{status_as, status_from, line_at, Pageable};
 
-use state::{Actor, Hold};
+use state::{Actor, Hold, Site};
 use table::access;
 
 // How an actor stands.
@@ -42,66 +41,42 @@ impl Status {
 }
 
 // Lays the page out.
-pub fn write(
-    table: &[u8],
-    actors: [Actor; 8],
-    comms: &[u64; 256],
-    queues: &[u8; 72],
-    buf: &mut [u8],
-) -> usize
-    requires { Pageable table.now actors comms.now queues.now buf.old }
-    ensures { Wrote buf.old (page_from table.now actors comms.now queues.now) buf.new result }
+pub fn write(table: &[u8], actors: [Actor; 8], site: &Site, buf: &mut [u8]) -> usize
+    requires { Pageable table.now actors site.now buf.old }
+    ensures { Wrote buf.old (page table.now (site_of actors site.now)) buf.new result }
 {
-    lines(table, &actors, access::actors(table), comms, queues, buf)
+    lines(table, &actors, access::actors(table), site, buf)
 }
 
 // The lines of so many actors.
-fn lines(
-    table: &[u8],
-    actors: &[Actor; 8],
-    count: usize,
-    comms: &[u64; 256],
-    queues: &[u8; 72],
-    buf: &mut [u8],
-) -> usize
-    requires { Answerable table.now actors.now comms.now queues.now × Positions actors.now × (count ≤ actors_of table.now)
-        × (length (parts (line_at table.now actors.now comms.now queues.now) count 0) ≤ length buf.old) }
-    ensures { Wrote buf.old (parts (line_at table.now actors.now comms.now queues.now) count 0) buf.new result }
+fn lines(table: &[u8], actors: &[Actor; 8], count: usize, site: &Site, buf: &mut [u8]) -> usize
+    requires { Answerable table.now actors.now × Positions actors.now × (count ≤ actors_of table.now)
+        × (length (parts (line_at table.now actors.now site.now) count 0) ≤ length buf.old) }
+    ensures { Wrote buf.old (parts (line_at table.now actors.now site.now) count 0) buf.new result }
 {
-    writing::each(
-        count,
-        |a, buf| actor_part(table, actors, a, comms, queues, buf),
-        buf,
-    )
+    writing::each(count, |a, buf| actor_part(table, actors, a, site, buf), buf)
 }
 
 // The line of one actor.
-fn actor_part(
-    table: &[u8],
-    actors: &[Actor; 8],
-    a: usize,
-    comms: &[u64; 256],
-    queues: &[u8; 72],
-    buf: &mut [u8],
-) -> usize
-    requires { Answerable table.now actors.now comms.now queues.now × Positions actors.now × (a < actors_of table.now)
-        × (length (line_at table.now actors.now comms.now queues.now a) ≤ length buf.old) }
-    ensures { Wrote buf.old (line_at table.now actors.now comms.now queues.now a) buf.new result }
+fn actor_part(table: &[u8], actors: &[Actor; 8], a: usize, site: &Site, buf: &mut [u8]) -> usize
+    requires { Answerable table.now actors.now × Positions actors.now × (a < actors_of table.now)
+        × (length (line_at table.now actors.now site.now a) ≤ length buf.old) }
+    ensures { Wrote buf.old (line_at table.now actors.now site.now a) buf.new result }
 {
     let r = actors[a];
-    let status = status_of(table, a, r, comms, queues);
+    let status = status_of(table, a, r, site);
     actor_line(a, r, status, buf)
 }
 
 // An actor is finished, or stands as its next step does.
-fn status_of(table: &[u8], a: usize, r: Actor, comms: &[u64; 256], queues: &[u8; 72]) -> Status
-    requires { Looked table.now a r comms.now queues.now }
-    ensures { status_as result ≡ status_from table.now a r comms.now queues.now }
+fn status_of(table: &[u8], a: usize, r: Actor, site: &Site) -> Status
+    requires { Looked table.now a }
+    ensures { status_as result ≡ status_from table.now a r site.now }
 {
     if access::actions(table, a) <= r.position {
         return Status::Finished;
     }
-    match readiness::next_step(table, a, r, comms, queues) {
+    match readiness::next_step(table, a, r, site) {
         Ok(()) => Status::Ready,
         Err(Hold::Waits) => Status::Waits,
         Err(Hold::Over) => Status::Over,

@@ -30,7 +30,8 @@ use Rattle.model.proofs.Reached.{reached-end}
 use Rattle.model.proofs.Journaled.{note-longer}
 use Rattle.model.proofs.ReportBound.{entries-room, journal-room}
 use Rattle.names.specs.InByte.{name_of}
-use Rattle.state.specs.State.{record_of, records_of, fresh_actor, mail_of, queues_of, number_noted, journal_of, site_of, next_of, seen_from}
+use Rattle.state.specs.declared.arrays.Site.{Site as Arrays}
+use Rattle.state.specs.State.{record_of, records_of, fresh_actor, site_of, next_of, seen_from}
 use Rattle.step.specs.Parts.{Steppable, Took, StepTaken}
 use Rattle.state.specs.declared.Actor.{Actor}
 use Rattle.names.proofs.InByte.{name-byte}
@@ -46,10 +47,10 @@ step-decides n taken i after h = absurd (true≢false h)
 step-decides n waiting i after h = refl
 step-decides n over i after h = refl
 
-module _ {table schedule comms log ends queues journal : List ℕ} {actors : List Actor} {i : ℕ}
-    (P : Playing table schedule comms log ends queues journal actors i) where
+module _ {table schedule : List ℕ} {arrays : Arrays} {actors : List Actor} {i : ℕ}
+    (P : Playing table schedule arrays actors i) where
   abbrev here : Site
-  here = site_of actors comms log ends queues journal
+  here = site_of actors arrays
 
   pub entries-so-far : i ≤ 256
   entries-so-far =
@@ -95,21 +96,21 @@ module _ {table schedule comms log ends queues journal : List ℕ} {actors : Lis
         still = unfinished-here true (lt-ltb r.position (count_of table a) left)
 
         -- the step's own view decides what the step is
-        step-here : next_step table (reached table schedule i) a ≡ step_of table (seen_from r (mail_of comms log ends) (queues_of queues)) a x
+        step-here : next_step table (reached table schedule i) a ≡ step_of table (seen_from r arrays) a x
         step-here =
             sym (ap (λ (s : Site). next_step table s a) P.site)
-            ∙ step-parts table here (seen_from held (mail_of comms log ends) (queues_of queues)) a (next_of table a held) refl refl refl
-            ∙ ap (λ (q : Actor). step_of table (seen_from q (mail_of comms log ends) (queues_of queues)) a (next_of table a q)) (sym own)
+            ∙ step-parts table here (seen_from held arrays) a (next_of table a held) refl refl refl
+            ∙ ap (λ (q : Actor). step_of table (seen_from q arrays) a (next_of table a q)) (sym own)
 
         -- a step that is not taken is refused by what it is
-        pub entry-untaken : (t : NextStep) → step_of table (seen_from r (mail_of comms log ends) (queues_of queues)) a x ≡ t → is_taken t ≡ false
+        pub entry-untaken : (t : NextStep) → step_of table (seen_from r arrays) a x ≡ t → is_taken t ≡ false
             → (n : RefusalNumbers) → check_schedule n table schedule ≡ check_step n t i
         entry-untaken t e not n =
             sym
             (step-decides n t i (check_from n table (step table (reached table schedule i) a) (suc i) (drop (suc i) schedule)) not
             ∙ sym (checks-here n ∙ rw (lt-ltb a (actors_of table) in_table, still, step-here ∙ e)))
 
-        ready-here : step_of table (seen_from r (mail_of comms log ends) (queues_of queues)) a x ≡ taken → ready table (reached table schedule i) a ≡ true
+        ready-here : step_of table (seen_from r arrays) a x ≡ taken → ready table (reached table schedule i) a ≡ true
         ready-here e = parts-ready table (reached table schedule i) a (lt-ltb a (actors_of table) in_table) still (ap is_taken (step-here ∙ e))
 
         -- ---- a step
@@ -124,10 +125,10 @@ module _ {table schedule comms log ends queues journal : List ℕ} {actors : Lis
             omega arith
 
         -- a Note is taken, so that the journal with its entry is that of a state that is reached too
-        note-more : (cell : ℕ) → x ≡ Note cell → number_noted journal < 256
+        note-more : (cell : ℕ) → x ≡ Note cell → arrays.journal.count < 256
         note-more cell e =
             let now : ready table (reached table schedule i) a ≡ true =
-            ready-here (ap (step_of table (seen_from r (mail_of comms log ends) (queues_of queues)) a) e) in
+            ready-here (ap (step_of table (seen_from r arrays) a) e) in
             let there : length (reached table schedule (i + 1)).journal ≤ 256 =
             journal-room table P.accepted-table (reached table schedule (i + 1)) (reached-end table (take (i + 1) schedule) (taken_more now)) in
             let one_on : reached table schedule (i + 1) ≡ step table (reached table schedule i) a =
@@ -140,18 +141,15 @@ module _ {table schedule comms log ends queues journal : List ℕ} {actors : Lis
               ap (λ (s : Site). length s.journal) one_on,
               note-longer table (reached table schedule i) a cell action,
               ap (λ (s : Site). length s.journal) P.site,
-              counts journal P.journal-room,
+              counts arrays.journal,
             )
 
-        pub steppable : Steppable table a r comms log ends queues journal
+        pub steppable : Steppable table a r arrays
         steppable =
             record {
               accepted = P.accepted-table;
               actor = in_table;
               unfinished = left;
-              mail-room = P.mail-room;
-              queue-room = P.queue-room;
-              journal-room = P.journal-room;
               tail-room = λ e n. let small = room-more (ready-here e) in omega (arith, P.tail-room n);
               join-room = λ m.
                   subst (λ (q : ℕ → List Queued). length (join (q m) a) ≤ 8) (sym (ap (λ (s : Site). s.queue) P.site))
@@ -163,8 +161,8 @@ module _ {table schedule comms log ends queues journal : List ℕ} {actors : Lis
               note-room = note-more;
             }
 
-        module _ {comms' log' ends' queues' journal' : List ℕ} {after : Actor}
-            (T : StepTaken table a x r comms log ends queues journal comms' log' ends' queues' journal' (Ok after)) where
+        module _ {arrays' : Arrays} {after : Actor}
+            (T : StepTaken table a x r arrays arrays' (Ok after)) where
           was-ready : ready table (reached table schedule i) a ≡ true
           was-ready = ready-here (sym T.next-right)
 
@@ -175,16 +173,14 @@ module _ {table schedule comms log ends queues journal : List ℕ} {actors : Lis
           in-actors = omega (arith, P.actors-long, P.accepted-table.actors-most)
 
           -- what the step took of the record in its place
-          took : Took table a (next_of table a held) held (mail_of comms log ends) (queues_of queues) (journal_of journal) (mail_of comms' log' ends') (queues_of queues')
-              (journal_of journal') after
+          took : Took table a (next_of table a held) held arrays arrays' after
           took =
               subst
               (λ (q : Actor).
-              Took table a (next_of table a q) q (mail_of comms log ends) (queues_of queues) (journal_of journal) (mail_of comms' log' ends') (queues_of queues')
-              (journal_of journal') after)
+              Took table a (next_of table a q) q arrays arrays' after)
               own T.took
 
-          stepped : site_of (set actors a after) comms' log' ends' queues' journal' ≡ step table here a
+          stepped : site_of (set actors a after) arrays' ≡ step table here a
           unfolding step
           stepped =
               let y : Action = next_of table a held in
@@ -193,7 +189,7 @@ module _ {table schedule comms log ends queues journal : List ℕ} {actors : Lis
               ∙ ap (upd eqb (records_of actors) a)
               (took.record-next
               ∙ ap (λ (found : Seen). local (action_of table a) y found (record_of held))
-              (see-parts (seen_from held (mail_of comms log ends) (queues_of queues)) here a (looks y) refl refl)) in
+              (see-parts (seen_from held arrays) here a (looks y) refl refl)) in
               λ j. record { actor = records j; mail = took.mail-next j; queue = took.queue-next j; journal = took.journal-next j }
 
           small-position : r.position < 32
@@ -214,7 +210,7 @@ module _ {table schedule comms log ends queues journal : List ℕ} {actors : Lis
                     ∙ sym (ap (names (machine table) initial) one_more ∙ names_more (machine table) initial (take i schedule) a);
               }
 
-          pub playing-next : Playing table schedule comms' log' ends' queues' journal' (set actors a after) (i + 1)
+          pub playing-next : Playing table schedule arrays' (set actors a after) (i + 1)
           playing-next =
               record {
                 accepted-table = P.accepted-table;
@@ -224,8 +220,5 @@ module _ {table schedule comms log ends queues journal : List ℕ} {actors : Lis
                 taken = taken_more was-ready;
                 index = omega arith;
                 actors-long = simp length-set P.actors-long;
-                mail-room = T.mail-room;
-                queue-room = T.queue-room;
-                journal-room = T.journal-room;
                 tail-room = λ n. omega (arith, T.grown n, P.tail-room n);
               }

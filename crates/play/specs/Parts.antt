@@ -1,6 +1,6 @@
 -- What running a schedule takes and leaves.
 -- Assumes nothing: these are definitions.
-use Rattle.std.specs.Prelude.{ℕ, ◌≤◌, ◌≡◌, Result, MatchResult, List, map, length, take, replicate}
+use Rattle.std.specs.Prelude.{ℕ, ◌≤◌, ◌≡◌, Result, MatchResult, List, map, length, take}
 use Rattle.table.specs.Outcome.{accepted}
 use Rattle.table.specs.Promise.{WellFormed}
 use Rattle.trace.specs.Schedule.{names}
@@ -9,7 +9,8 @@ use Rattle.model.specs.Schedule.{machine, end_state, RefusalNumbers, check_sched
 use Rattle.model.specs.Scheduler.{made_from}
 use Rattle.names.specs.InByte.{name_of}
 use Rattle.state.specs.declared.Actor.{Actor}
-use Rattle.state.specs.State.{number_noted, site_of, MailRoom, QueueRoom, JournalRoom}
+use Rattle.state.specs.declared.arrays.Site.{Site as Arrays}
+use Rattle.state.specs.State.{site_of, Empty}
 use Rattle.answers.specs.declared.Stop.{Stop}
 use Rattle.answers.specs.Answers.{stop_of}
 use Rattle.policy.specs.Parts.{rule_of, kept_of}
@@ -18,19 +19,10 @@ use Rattle.lead.specs.declared.Lead.{Lead}
 use Rattle.lead.specs.declared.Lead.TheVariants.{Lent, Made}
 use Rattle.play.specs.declared.Played.{Played}
 
--- arrays that hold a fresh site: what the logs hold, and the journal after its number, plays no part
-pub record Empty (comms log ends queues journal : List ℕ) : Type 0 where
-  pub comms-fresh : comms ≡ replicate 256 0
-  pub log-long : length log ≡ 4096
-  pub ends_fresh : ends ≡ replicate 32 0
-  pub queues-fresh : queues ≡ replicate 72 0
-  pub journal-long : length journal ≡ 257
-  pub journal-empty : number_noted journal ≡ 0
-
--- an accepted table, arrays that hold a fresh site, and an array for the names
-pub record Fresh (table comms log ends queues journal names' : List ℕ) : Type 0 where
+-- an accepted table, a fresh site, and an array for the names
+pub record Fresh (table : List ℕ) (arrays : Arrays) (names' : List ℕ) : Type 0 where
   pub accepted : WellFormed table
-  pub empty : Empty comms log ends queues journal
+  pub empty : Empty arrays
   pub names-long : length names' ≡ 256
 
 -- the schedule that a policy makes; and the one that is played, lent or made
@@ -42,23 +34,20 @@ played_by table (Lent schedule) = schedule.now
 played_by table (Made policy) = schedule_by table policy
 
 -- the end state, in arrays
-pub record Ended (table schedule comms log ends queues journal names' : List ℕ) (actors : List Actor) : Type 0 where
-  pub site : site_of actors comms log ends queues journal ≡ end_state table schedule
+pub record Ended (table schedule : List ℕ) (arrays : Arrays) (names' : List ℕ) (actors : List Actor) : Type 0 where
+  pub site : site_of actors arrays ≡ end_state table schedule
   pub actors-long : length actors ≡ 8
-  pub mail-room : MailRoom comms log ends
-  pub queue-room : QueueRoom queues
-  pub journal-room : JournalRoom journal
   pub entries-most : length schedule ≤ 256
   pub names-long : length names' ≡ 256
   pub names-right : map name_of (take (length schedule) names') ≡ names (machine table) initial schedule
 
 -- the schedule was played to its end: it is accepted, as many steps as entries were run, and the arrays hold the end state
-pub record Through (table schedule comms log ends queues journal names' : List ℕ) (played : Played) : Type 0 where
+pub record Through (table schedule : List ℕ) (arrays : Arrays) (names' : List ℕ) (played : Played) : Type 0 where
   pub checked : (n : RefusalNumbers) → check_schedule n table schedule ≡ accepted
   pub counted : played.steps ≡ length schedule
-  pub ended : Ended table schedule comms log ends queues journal names' played.actors
+  pub ended : Ended table schedule arrays names' played.actors
 
 -- it was played to its end, or stopped as its check refuses it
-abbrev pub PlayedRight : (table schedule comms log ends queues journal names' : List ℕ) → Result Played Stop → Type 0
-PlayedRight table schedule comms log ends queues journal names' r =
-    MatchResult r (Through table schedule comms log ends queues journal names') (λ stop. (n : RefusalNumbers) → check_schedule n table schedule ≡ stop_of n stop)
+abbrev pub PlayedRight : (table schedule : List ℕ) (arrays : Arrays) (names' : List ℕ) → Result Played Stop → Type 0
+PlayedRight table schedule arrays names' r =
+    MatchResult r (Through table schedule arrays names') (λ stop. (n : RefusalNumbers) → check_schedule n table schedule ≡ stop_of n stop)

@@ -6,7 +6,7 @@ ghost use Rattle.play.specs.Parts.{Fresh, PlayedRight, schedule_by, played_by};
 use answers::Stop;
 use lead::Lead;
 use policy::Policy;
-use state::{Actor, Hold};
+use state::{Actor, Hold, Site};
 
 // How many steps a schedule had, and the actors' records at its end.
 #[derive(Clone, Copy)]
@@ -15,74 +15,41 @@ pub struct Played {
     pub actors: [Actor; 8],
 }
 
-// Plays a lent schedule. The arrays come fresh, and hold the end state where it is played to its end; `names` then holds the names of the steps run.
+// Plays a lent schedule. The site comes fresh, and holds the end state where it is played to its end; `names` then holds the names of the steps run.
 pub fn play(
     table: &[u8],
     schedule: &[u8],
-    comms: &mut [u64; 256],
-    log: &mut [u8; 4096],
-    ends: &mut [usize; 32],
-    queues: &mut [u8; 72],
-    journal: &mut [usize; 257],
+    site: &mut Site,
     names: &mut [u8; 256],
 ) -> Result<Played, Stop>
-    requires { Fresh table.now comms.old log.old ends.old queues.old journal.old names.old }
-    ensures { PlayedRight table.now schedule.now comms.new log.new ends.new
-        queues.new journal.new names.new result }
+    requires { Fresh table.now site.old names.old }
+    ensures { PlayedRight table.now schedule.now site.new names.new result }
 {
-    turns(
-        table,
-        Lead::Lent(schedule),
-        comms,
-        log,
-        ends,
-        queues,
-        journal,
-        names,
-    )
+    turns(table, Lead::Lent(schedule), site, names)
 }
 
 // Makes the schedule of a policy and plays it, likewise.
 pub fn make(
     table: &[u8],
     policy: Policy,
-    comms: &mut [u64; 256],
-    log: &mut [u8; 4096],
-    ends: &mut [usize; 32],
-    queues: &mut [u8; 72],
-    journal: &mut [usize; 257],
+    site: &mut Site,
     names: &mut [u8; 256],
 ) -> Result<Played, Stop>
-    requires { Fresh table.now comms.old log.old ends.old queues.old journal.old names.old }
-    ensures { PlayedRight table.now (schedule_by table.now policy) comms.new log.new ends.new
-        queues.new journal.new names.new result }
+    requires { Fresh table.now site.old names.old }
+    ensures { PlayedRight table.now (schedule_by table.now policy) site.new names.new result }
 {
-    turns(
-        table,
-        Lead::Made(policy),
-        comms,
-        log,
-        ends,
-        queues,
-        journal,
-        names,
-    )
+    turns(table, Lead::Made(policy), site, names)
 }
 
 // Plays the lent schedule, or the one that the policy makes. One loop for both, so that the step stands in one place.
 fn turns(
     table: &[u8],
     mut lead: Lead,
-    comms: &mut [u64; 256],
-    log: &mut [u8; 4096],
-    ends: &mut [usize; 32],
-    queues: &mut [u8; 72],
-    journal: &mut [usize; 257],
+    site: &mut Site,
     names: &mut [u8; 256],
 ) -> Result<Played, Stop>
-    requires { Fresh table.now comms.old log.old ends.old queues.old journal.old names.old }
-    ensures { PlayedRight table.now (played_by table.now lead.entry) comms.new log.new
-        ends.new queues.new journal.new names.new result }
+    requires { Fresh table.now site.old names.old }
+    ensures { PlayedRight table.now (played_by table.now lead.entry) site.new names.new result }
 {
     let n = table::access::actors(table);
     let mut actors = [Actor::fresh(); 8];
@@ -92,9 +59,9 @@ fn turns(
         if let Lead::Made(_) = lead {
             let own = actors[last];
             mask = if lead::was_quiet(table, last, own) {
-                readiness::own_bit(table, mask, last, own, comms, queues)
+                readiness::own_bit(table, mask, last, own, site)
             } else {
-                readiness::ready_mask(table, n, mask, last, actors, comms, queues)
+                readiness::ready_mask(table, n, mask, last, actors, site)
             };
         }
         let Some(a) = lead.turn(i, mask) else {
@@ -108,7 +75,7 @@ fn turns(
         if table::access::actions(table, a) <= k {
             return Err(Stop::Finished(i as u32));
         }
-        match step::step(table, a, r, comms, log, ends, queues, journal) {
+        match step::step(table, a, r, site) {
             Ok(after) => {
                 names[i] = (32 * a + k) as u8;
                 actors[a] = after;

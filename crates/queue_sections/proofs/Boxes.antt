@@ -9,7 +9,8 @@ use lib.ListN.{length, length-append, length-map}
 use Rattle.trace.specs.Machine.{Name}
 use Rattle.model.specs.Report.{parts, word, name_bytes, box_bytes}
 use Rattle.names.specs.InByte.{name_of}
-use Rattle.state.specs.State.{head_in, tail_in, pending_in, LogRoom}
+use Rattle.state.specs.State.{pending_in}
+use Rattle.state.specs.Rooms.{head_in, tail_in, LogRoom}
 use Rattle.queue_sections.specs.Parts.{name_at, port_bytes, queue_of}
 use Rattle.queue_sections.proofs.Lists.{names_at, taken-length}
 

@@ -5,7 +5,8 @@ use mathlib.Core.List.{List, [], ◌∷◌, ◌++◌}
 use Prim.Native.Nat.{ℕ, ◌+◌, ◌*◌, ◌<◌}
 use native.Mathlib.Omega.{arith}
 use Rattle.model.specs.Report.{parts, queued_bytes, mutex_bytes}
-use Rattle.state.specs.State.{size_in, queues_of, QueueRoom}
+use Rattle.state.specs.State.{queues_of}
+use Rattle.state.specs.Rooms.{size_in, QueueRoom}
 use Rattle.state.proofs.Queued.{queue-length}
 use Rattle.queue_sections.specs.Parts.{entry_at}
 use Rattle.queue_sections.proofs.Lists.{entries_at}

@@ -21,8 +21,9 @@ use Rattle.model.specs.Site.{Site}
 use Rattle.model.specs.Step.{NextStep, is_taken, next_step, ready}
 use Rattle.model.specs.Ready.{bit_of, bit, mask_of, all, ending_of, ready_mask, ready_count, ready_answer}
 use Rattle.model.proofs.ReadyMask.{mask-small, mask-right}
-use Rattle.state.specs.State.{mail_of, queues_of, fresh_actor, next_of, seen_from}
-use Rattle.readiness.specs.Parts.{Answerable, site_with, Known, step_from, looks_ready, everyone_finished}
+use Rattle.state.specs.State.{site_of, fresh_actor, next_of, seen_from}
+use Rattle.state.specs.declared.arrays.Site.{Site as Arrays}
+use Rattle.readiness.specs.Parts.{Answerable, Known, step_from, looks_ready, everyone_finished}
 use Rattle.answers.specs.Answers.{ending_as, readiness_of}
 use Rattle.state.specs.declared.Actor.{Actor}
 use Rattle.answers.specs.declared.Readiness.{Readiness}
@@ -31,33 +32,25 @@ use Rattle.look.proofs.Sees.{step-parts}
 
 -- ---- one actor
 
--- what an actor's next step is, by its record: the ports' logs and the journal play no part
-pub step-looks : (table : List ℕ) (actors : List Actor) (comms queues log ends journal log' ends' : List ℕ) (a : ℕ)
-    → next_step table (site_with actors comms queues log ends journal) a ≡ step_from table a (get_or actors a fresh_actor) comms queues log' ends'
-step-looks table actors comms queues log ends journal log' ends' a =
+-- what an actor's next step is, by its record: the others' and the journal play no part
+pub step-looks : (table : List ℕ) (actors : List Actor) (site : Arrays) (a : ℕ)
+    → next_step table (site_of actors site) a ≡ step_from table a (get_or actors a fresh_actor) site
+step-looks table actors site a =
     let r : Actor = get_or actors a fresh_actor in
-    step-parts table (site_with actors comms queues log ends journal) (seen_from r (mail_of comms log' ends') (queues_of queues)) a (next_of table a r) refl refl refl
+    step-parts table (site_of actors site) (seen_from r site) a (next_of table a r) refl refl refl
 
--- nor whether it is ready
-pub ready-alike : (table : List ℕ) (actors : List Actor) (comms queues log ends journal log' ends' journal' : List ℕ) (a : ℕ)
-    → ready table (site_with actors comms queues log ends journal) a ≡ ready table (site_with actors comms queues log' ends' journal') a
+pub ready-looks : (table : List ℕ) (actors : List Actor) (site : Arrays) (a : ℕ) → a < actors_of table
+    → ready table (site_of actors site) a ≡ looks_ready table a (get_or actors a fresh_actor) site
 unfolding ready
-ready-alike table actors comms queues log ends journal log' ends' journal' a =
-    ap (λ (t : NextStep). ltb a (actors_of table) && (ltb (get_or actors a fresh_actor).position (count_of table a) && is_taken t))
-    (step-looks table actors comms queues log ends journal log' ends' a ∙ sym (step-looks table actors comms queues log' ends' journal' log' ends' a))
-
-pub ready-looks : (table : List ℕ) (actors : List Actor) (comms queues log ends journal : List ℕ) (a : ℕ) → a < actors_of table
-    → ready table (site_with actors comms queues log ends journal) a ≡ looks_ready table a (get_or actors a fresh_actor) comms queues log ends
-unfolding ready
-ready-looks table actors comms queues log ends journal a h =
+ready-looks table actors site a h =
     rw (lt-ltb a (actors_of table) h)
-    (ap (λ (t : NextStep). ltb (get_or actors a fresh_actor).position (count_of table a) && is_taken t) (step-looks table actors comms queues log ends journal log ends a))
+    (ap (λ (t : NextStep). ltb (get_or actors a fresh_actor).position (count_of table a) && is_taken t) (step-looks table actors site a))
 
 -- ---- the mask
 
 -- a mask of 0 has nobody
-pub nobody-known : (table : List ℕ) (a : ℕ) (actors : List Actor) (comms queues : List ℕ) → Known table 0 a actors comms queues
-nobody-known table a actors comms queues i h ne log ends journal =
+pub nobody-known : (table : List ℕ) (a : ℕ) (actors : List Actor) (site : Arrays) → Known table 0 a actors site
+nobody-known table a actors site i h ne =
     let none : bit_of 0 i ≡ 0 = ap (λ (x : ℕ). x % 2) (zero-div (2 ^ i)) in
     absurd (omega arith)
 
@@ -84,36 +77,36 @@ pub bit_most : (b : Bool) → bit b ≤ 1
 bit_most true = omega arith
 bit_most false = omega arith
 
-module _ {table : List ℕ} {actors : List Actor} {comms queues : List ℕ} (A : Answerable table actors comms queues) {n : ℕ} (counted : n ≡ actors_of table) where
+pub in_table : (table : List ℕ) {n : ℕ} → n ≡ actors_of table → {i : ℕ} → 0 < i → i ≤ n → i - 1 < actors_of table
+in_table table counted some low = omega arith
+
+module _ {table : List ℕ} {actors : List Actor} (A : Answerable table actors) {n : ℕ} (counted : n ≡ actors_of table) (site : Arrays) where
   -- m has the bits of the actors from i on
   abbrev Bits : ℕ → ℕ → Type 0
-  Bits m i = (log ends journal : List ℕ) → m ≡ mask_of (ready table (site_with actors comms queues log ends journal)) (n - i) i
+  Bits m i = m ≡ mask_of (ready table (site_of actors site)) (n - i) i
 
   -- before the last bit there is room for one more
   pub room-left : {m i : ℕ} → Bits m i → 0 < i → i ≤ n → m < 128
   room-left {m} {i} bits some low =
       let few : n - i ≤ 7 = omega (arith, A.accepted.actors-most) in
-      rw (bits [] [] []) (mask-room (ready table (site_with actors comms queues [] [] [])) (n - i) i few)
-
-  pub in_table : {i : ℕ} → 0 < i → i ≤ n → i - 1 < actors_of table
-  in_table some low = omega arith
+      rw bits (mask-room (ready table (site_of actors site)) (n - i) i few)
 
   -- what the record at a place tells of its actor
   pub looked : {a : ℕ} {b : Bool} (r : Actor) → a < actors_of table
-      → ((log ends : List ℕ) → b ≡ looks_ready table a (get_or actors a r) comms queues log ends)
-      → (log ends journal : List ℕ) → b ≡ ready table (site_with actors comms queues log ends journal) a
-  looked {a} {b} r there looks log ends journal =
-      looks log ends
-      ∙ ap (λ (q : Actor). looks_ready table a q comms queues log ends)
+      → (b ≡ looks_ready table a (get_or actors a r) site)
+      → b ≡ ready table (site_of actors site) a
+  looked {a} {b} r there looks =
+      looks
+      ∙ ap (λ (q : Actor). looks_ready table a q site)
       (get_or_default actors a r fresh_actor (omega (arith, A.accepted.actors-most, A.actors-long)))
-      ∙ sym (ready-looks table actors comms queues log ends journal a there)
+      ∙ sym (ready-looks table actors site a there)
 
   -- an actor's bit below those that stand
   pub one_more : {m i b : ℕ} {is : Bool} → Bits m i → 0 < i → i ≤ n → b ≡ bit is
-      → ((log ends journal : List ℕ) → is ≡ ready table (site_with actors comms queues log ends journal) (i - 1)) → Bits (b + 2 * m) (i - 1)
-  one_more {m} {i} bits some low value right log ends journal =
-      ap₂ (λ (y z : ℕ). y + 2 * z) (value ∙ ap bit (right log ends journal)) (bits log ends journal)
-      ∙ sym (mask_next (ready table (site_with actors comms queues log ends journal)) n i some low)
+      → (is ≡ ready table (site_of actors site) (i - 1)) → Bits (b + 2 * m) (i - 1)
+  one_more {m} {i} bits some low value right =
+      ap₂ (λ (y z : ℕ). y + 2 * z) (value ∙ ap bit right) bits
+      ∙ sym (mask_next (ready table (site_of actors site)) n i some low)
 
 -- ---- everyone
 
@@ -145,9 +138,9 @@ everyone table actors n h =
 
 -- ---- the answer
 
-module _ (table : List ℕ) (actors : List Actor) (comms queues log ends journal : List ℕ) where
+module _ (table : List ℕ) (actors : List Actor) (site : Arrays) where
   abbrev s : Site
-  s = site_with actors comms queues log ends journal
+  s = site_of actors site
 
   pub answer-right : (r : Readiness) → r.mask ≡ ready_mask table s → r.count ≡ ones r.mask
       → ending_as r.ending ≡ ending_of (everyone_finished table (actors_of table) actors) r.count → readiness_of r ≡ ready_answer table s

@@ -4,6 +4,7 @@ use mathlib.Core.Path.{◌≡◌, refl, ◌∙◌, ap, sym}
 use mathlib.Core.List.{List, map}
 use Prim.Native.Nat.{ℕ}
 use lib.ListN.{take}
+use Rattle.state.specs.declared.arrays.Site.{Site as Arrays}
 use Rattle.std.specs.Prelude.{Result, Ok, Err, IsOk, MatchResult}
 use Rattle.table.specs.Promise.{WellFormed}
 use Rattle.table.proofs.Checks.{refused-not}
@@ -38,7 +39,7 @@ module _ (table : List ℕ) (policy : Policy) (ok : WellFormed table) where
   made P (Ok played) h = refl
   made P (Err stop) h = absurd (goes-on stop h)
 
-  pub entries-right : {comms log ends queues journal held : List ℕ} {played : Played} → Through table whole comms log ends queues journal held played
+  pub entries-right : {arrays : Arrays} {held : List ℕ} {played : Played} → Through table whole arrays held played
       → map actor_in (take played.steps held) ≡ whole
-  entries-right {comms} {log} {ends} {queues} {journal} {held} {played} T =
+  entries-right {arrays} {held} {played} T =
       entries-back table whole held played.steps (ap (λ (n : ℕ). map name_of (take n held)) T.counted ∙ T.ended.names-right)

@@ -8,6 +8,7 @@ ghost use Rattle.policy.specs.Parts.{rule_of, kept_of};
 
 use answers::Refusal;
 use policy::Policy;
+use state::Site;
 
 // Makes the schedule of a policy from a fresh site and writes its entries into the lent bytes.
 pub fn schedule(table: &[u8], policy: Policy, entries: &mut [u8]) -> Result<u32, Refusal>
@@ -18,24 +19,10 @@ pub fn schedule(table: &[u8], policy: Policy, entries: &mut [u8]) -> Result<u32,
         return Err(Refusal::ScheduleRoom);
     }
     reader::read(table)?;
-    let mut comms = [0u64; 256];
-    let mut log = [0u8; 4096];
-    let mut ends = [0usize; 32];
-    let mut queues = [0u8; 72];
-    let mut journal = [0usize; 257];
+    let mut site = Site::fresh();
     let mut names = [0u8; 256];
     // a made schedule is not refused
-    let played = play::make(
-        table,
-        policy,
-        &mut comms,
-        &mut log,
-        &mut ends,
-        &mut queues,
-        &mut journal,
-        &mut names,
-    )
-    .unwrap();
+    let played = play::make(table, policy, &mut site, &mut names).unwrap();
     let n = played.steps;
     write(&names, n, entries);
     Ok(n as u32)

@@ -6,6 +6,10 @@ ghost use Rattle.table.specs.declared.Action.TheVariants.{Add};
 ghost use Rattle.model.specs.Views.{total, largest, runs_over};
 ghost use Rattle.model.specs.Step.{taken, over};
 
+pub mod arrays;
+
+pub use arrays::{Journal, Mail, Queues, Site};
+
 // An actor's record: its eight cells, and the number of its next action.
 #[derive(Clone, Copy)]
 pub struct Actor {

@@ -11,24 +11,13 @@ ghost use Rattle.step.specs.Parts.{Steppable, StepTaken, Picks, SmallPlace};
 ghost use Rattle.state.specs.State.{next_of};
 
 use look::Found;
-use state::{Actor, Hold};
+use state::{Actor, Hold, Site};
 use table::Action;
 
 // The record after an actor's next step, or why the step is not taken.
-pub fn step(
-    table: &[u8],
-    a: usize,
-    r: Actor,
-    comms: &mut [u64; 256],
-    log: &mut [u8; 4096],
-    ends: &mut [usize; 32],
-    queues: &mut [u8; 72],
-    journal: &mut [usize; 257],
-) -> Result<Actor, Hold>
-    requires { Steppable table.now a r comms.old log.old ends.old queues.old journal.old }
-    ensures { StepTaken table.now a (next_of table.now a r) r
-        comms.old log.old ends.old queues.old journal.old
-        comms.new log.new ends.new queues.new journal.new result }
+pub fn step(table: &[u8], a: usize, r: Actor, site: &mut Site) -> Result<Actor, Hold>
+    requires { Steppable table.now a r site.old }
+    ensures { StepTaken table.now a (next_of table.now a r) r site.old site.new result }
 {
     let me = 32 * a + r.position;
     let after = match table::within::action(table, a, r.position) {
@@ -39,38 +28,38 @@ pub fn step(
         }
         Action::Lesser { cell, other } => r.lesser(cell, other),
         Action::Send { mailbox, cell } => {
-            mail::send(comms, log, ends, me, mailbox, r.cells[cell]);
+            mail::send(&mut site.mail, me, mailbox, r.cells[cell]);
             r
         }
         Action::Receive { mailbox, cell: _ } => {
-            mail::receive(comms, log, ends, me, mailbox);
+            mail::receive(&mut site.mail, me, mailbox);
             r
         }
         Action::TestAny { result, list } => {
-            let seen = look::communications(comms, a, list);
+            let seen = look::communications(&site.mail, a, list);
             told(picked(table, a, r, seen), result, seen)
         }
         Action::WaitAny { result, list } => {
-            let seen = look::communications(comms, a, list);
+            let seen = look::communications(&site.mail, a, list);
             look::awaited(seen)?;
             told(picked(table, a, r, seen), result, seen)
         }
         Action::Lock { mutex } => {
-            mutex::join(queues, mutex, a);
+            mutex::join(&mut site.queues, mutex, a);
             r
         }
         Action::Unlock { mutex } => {
-            mutex::leave(queues, mutex, a);
+            mutex::leave(&mut site.queues, mutex, a);
             r
         }
-        Action::MutexTest { result, list } => told(r, result, look::mutexes(queues, a, list)),
+        Action::MutexTest { result, list } => told(r, result, look::mutexes(&site.queues, a, list)),
         Action::MutexWait { result, list } => {
-            let seen = look::mutexes(queues, a, list);
+            let seen = look::mutexes(&site.queues, a, list);
             look::awaited(seen)?;
             told(r, result, seen)
         }
         Action::Note { cell } => {
-            journal::add(journal, me, r.cells[cell]);
+            journal::add(&mut site.journal, me, r.cells[cell]);
             r
         }
     };

@@ -24,7 +24,7 @@ actor_line-requires c =
     let same = taken x.actors.now x.a c.index-actors-a.result one c.requires.0.actors-long in (
       one,
       subst (λ (r : Actor). r.position < 256) (sym same) (c.requires.1 x.a),
-      subst (λ (l : List ℕ). length l ≤ length x.buf.now) (sym (line-from x.table.now x.actors.now x.comms.now x.queues.now x.a _ same (status_as s.result) s.ensures)) c.requires.3,
+      subst (λ (l : List ℕ). length l ≤ length x.buf.now) (sym (line-from x.table.now x.actors.now x.site.now x.a _ same (status_as s.result) s.ensures)) c.requires.3,
     )
 
 pub returns : goal.returns
@@ -34,4 +34,4 @@ returns c =
     let l = c.actor_line in
     let one : x.a < 8 = omega (arith, c.requires.2, c.requires.0.accepted.actors-most) in
     let same = taken x.actors.now x.a c.index-actors-a.result one c.requires.0.actors-long in
-    subst (λ (t : List ℕ). Wrote x.buf.now t l.new.buf l.result) (line-from x.table.now x.actors.now x.comms.now x.queues.now x.a _ same (status_as s.result) s.ensures) l.ensures
+    subst (λ (t : List ℕ). Wrote x.buf.now t l.new.buf l.result) (line-from x.table.now x.actors.now x.site.now x.a _ same (status_as s.result) s.ensures) l.ensures

@@ -4,4 +4,4 @@ use Rattle.page.specs.Parts.{line_at}
 use Rattle.page.proofs.lines.Given as goal
 
 abbrev pub ghost-each : goal.ghost-each
-ghost-each a = line_at a.part.0.now a.part.1.now a.part.2.now a.part.3.now
+ghost-each a = line_at a.part.0.now a.part.1.now a.part.2.now

@@ -26,10 +26,10 @@ use Rattle.play.proofs.turns.Goals.{in-Made+then-was_quiet, in-Made+else-was_qui
 
 -- ---- the mask, where the schedule is made
 
-made-led : (c : In-Made) → Making c.args.table.now (played_by c.args.table.now c.args.lead) c.in-Made.field-0 c.loop-i.mask c.loop-i.last c.loop-i.i c.loop-i.actors c.loop-i.comms c.loop-i.queues
+made-led : (c : In-Made) → Making c.args.table.now (played_by c.args.table.now c.args.lead) c.in-Made.field-0 c.loop-i.mask c.loop-i.last c.loop-i.i c.loop-i.actors c.loop-i.site
 made-led c =
     subst
-    (λ (lead : Lead). Leads lead c.args.table.now (played_by c.args.table.now c.args.lead) c.loop-i.mask c.loop-i.last c.loop-i.i c.loop-i.actors c.loop-i.comms c.loop-i.queues)
+    (λ (lead : Lead). Leads lead c.args.table.now (played_by c.args.table.now c.args.lead) c.loop-i.mask c.loop-i.last c.loop-i.i c.loop-i.actors c.loop-i.site)
     c.in-Made.is c.loop-i.invariant.2
 
 -- the mask of a made schedule
@@ -43,15 +43,15 @@ masked j =
     let l = j.loop-i in
     let table = j.args.table.now in
     let whole = played_by table j.args.lead in
-    let led : (policy : Policy) → l.lead ≡ Made policy → Making table whole policy l.mask l.last l.i l.actors l.comms l.queues =
-    λ policy e. subst (λ (lead : Lead). Leads lead table whole l.mask l.last l.i l.actors l.comms l.queues) e l.invariant.2 in
+    let led : (policy : Policy) → l.lead ≡ Made policy → Making table whole policy l.mask l.last l.i l.actors l.site =
+    λ policy e. subst (λ (lead : Lead). Leads lead table whole l.mask l.last l.i l.actors l.site) e l.invariant.2 in
     elim j.match-lead.branch [
       | in-Made+then-was_quiet w ↦
           right j w.in-Made.field-0 w.in-Made.is
-          (w.mask-is ∙ w.own_bit-mask.ensures l.log l.ends ∙ own-right l.invariant.0 (led w.in-Made.field-0 w.in-Made.is) _ (get_or_default l.actors l.last _ _ (last-in-actors l.invariant.0 (led w.in-Made.field-0 w.in-Made.is))) (w.was_quiet.ensures w.if-was_quiet.true))
+          (w.mask-is ∙ w.own_bit-mask.ensures ∙ own-right l.invariant.0 (led w.in-Made.field-0 w.in-Made.is) _ (get_or_default l.actors l.last _ _ (last-in-actors l.invariant.0 (led w.in-Made.field-0 w.in-Made.is))) (w.was_quiet.ensures w.if-was_quiet.true))
       | in-Made+else-was_quiet w ↦
           right j w.in-Made.field-0 w.in-Made.is
-          (w.mask-is ∙ w.ready_mask-mask.ensures l.log l.ends l.journal ∙ ap (ready_mask table) l.invariant.0.site)
+          (w.mask-is ∙ w.ready_mask-mask.ensures ∙ ap (ready_mask table) l.invariant.0.site)
       | in_default w ↦ unmasked l.lead table whole l.i j.match-lead.mask w.in_default.not-Made
     ]
 
@@ -78,9 +78,9 @@ own-record e read =
 
 pub loop-i-init : goal.loop-i-init
 loop-i-init c = (
-  playing-start _ _ _ _ _ _ _ _ c.requires.accepted c.requires.empty (ap (replicate 8) c.fresh-actors.ensures),
+  playing-start _ _ _ _ c.requires.accepted c.requires.empty (ap (replicate 8) c.fresh-actors.ensures),
   named_start _ _ _ c.requires.names-long,
-  leads-start c.args.lead c.args.table.now c.fresh-actors.result c.args.comms.now c.args.queues.now c.requires.accepted c.fresh-actors.ensures,
+  leads-start c.args.lead c.args.table.now c.fresh-actors.result c.args.site.now c.requires.accepted c.fresh-actors.ensures,
 )
 
 pub was_quiet-requires : goal.was_quiet-requires
@@ -96,8 +96,6 @@ own_bit-mask-requires c =
       record {
         accepted = P.accepted-table;
         actor = M.last-in;
-        comms-room = P.mail-room.comms-room;
-        queue-room = P.queue-room;
       },
       own-there (opened P M _ (get_or_default c.loop-i.actors c.loop-i.last _ _ (last-in-actors P M)) (c.was_quiet.ensures c.if-was_quiet.true)) M.last-in,
     )

@@ -9,5 +9,5 @@ use Rattle.play.proofs.turns.Given as goal
 abbrev pub invariant-loop-i : goal.invariant-loop-i
 invariant-loop-i l =
     let whole = played_by l.table l.fn.lead in
-    Playing l.table whole l.comms l.log l.ends l.queues l.journal l.actors l.i × Named l.table whole l.names l.i
-    × Leads l.lead l.table whole l.mask l.last l.i l.actors l.comms l.queues
+    Playing l.table whole l.site l.actors l.i × Named l.table whole l.names l.i
+    × Leads l.lead l.table whole l.mask l.last l.i l.actors l.site

@@ -5,7 +5,7 @@ use Prim.Native.Nat.{ℕ, ◌+◌, ◌*◌, ◌<◌, ◌≤◌}
 use native.Mathlib.Omega.{arith}
 use lib.ListN.{length}
 use Rattle.model.specs.Report.{word, box_bytes}
-use Rattle.state.specs.State.{LogRoom}
+use Rattle.state.specs.Rooms.{LogRoom}
 use Rattle.writing.specs.Written.{Wrote}
 use Rattle.queue_sections.specs.Parts.{port_bytes, queue_of}
 use Rattle.writing.proofs.Sections.{Begun, first-section, left-room, last-wrote, section-room, next-section}
@@ -28,10 +28,10 @@ sized {log} {ends} e m room known fits {x} {y} sends receives {b} {at} w =
 pub port_part-requires : goal.port_part-requires
 port_part-requires c =
     let a = c.args in
-    (c.requires.0, omega (arith, c.requires.1), section-room (port_bytes a.log.now a.ends.now (2 * a.m)) (port_bytes a.log.now a.ends.now (2 * a.m + 1)) (sized c.args.buf.now c.args.m c.requires.0 c.requires.1 c.requires.2 c.waiting-sends.ensures c.waiting.ensures c.short-at.ensures))
+    (omega (arith, c.requires.0), section-room (port_bytes a.mail.now.log a.mail.now.ends (2 * a.m)) (port_bytes a.mail.now.log a.mail.now.ends (2 * a.m + 1)) (sized c.args.buf.now c.args.m c.args.mail.now.room.log-room c.requires.0 c.requires.1 c.waiting-sends.ensures c.waiting.ensures c.short-at.ensures))
 
 pub port_part-requires-2 : goal.port_part-requires-2
-port_part-requires-2 c = let a = c.args in (c.requires.0, omega (arith, c.requires.1), left-room (next-section (port_bytes a.log.now a.ends.now (2 * a.m)) (port_bytes a.log.now a.ends.now (2 * a.m + 1)) (sized c.args.buf.now c.args.m c.requires.0 c.requires.1 c.requires.2 c.waiting-sends.ensures c.waiting.ensures c.short-at.ensures) c.port_part.ensures))
+port_part-requires-2 c = let a = c.args in (omega (arith, c.requires.0), left-room (next-section (port_bytes a.mail.now.log a.mail.now.ends (2 * a.m)) (port_bytes a.mail.now.log a.mail.now.ends (2 * a.m + 1)) (sized c.args.buf.now c.args.m c.args.mail.now.room.log-room c.requires.0 c.requires.1 c.waiting-sends.ensures c.waiting.ensures c.short-at.ensures) c.port_part.ensures))
 
 pub returns : goal.returns
-returns c = let a = c.args in last-wrote (next-section (port_bytes a.log.now a.ends.now (2 * a.m)) (port_bytes a.log.now a.ends.now (2 * a.m + 1)) (sized c.args.buf.now c.args.m c.requires.0 c.requires.1 c.requires.2 c.waiting-sends.ensures c.waiting.ensures c.short-at.ensures) c.port_part.ensures) c.port_part-2.ensures
+returns c = let a = c.args in last-wrote (next-section (port_bytes a.mail.now.log a.mail.now.ends (2 * a.m)) (port_bytes a.mail.now.log a.mail.now.ends (2 * a.m + 1)) (sized c.args.buf.now c.args.m c.args.mail.now.room.log-room c.requires.0 c.requires.1 c.waiting-sends.ensures c.waiting.ensures c.short-at.ensures) c.port_part.ensures) c.port_part-2.ensures

@@ -5,7 +5,8 @@ use Prim.Native.Nat.{ℕ, ◌<◌, ◌≤◌}
 use native.Mathlib.Omega.{arith}
 use lib.ListN.{length}
 use Rattle.model.specs.Report.{mutex_bytes}
-use Rattle.state.specs.State.{size_in, queues_of, QueueRoom}
+use Rattle.state.specs.State.{queues_of}
+use Rattle.state.specs.Rooms.{size_in, QueueRoom}
 use Rattle.writing.specs.Written.{Wrote}
 use Rattle.writing.proofs.Written.{rest}
 use Rattle.writing.proofs.Sections.{Begun, first-section, left-room, last-wrote}
@@ -26,13 +27,12 @@ pub entries-requires : goal.entries-requires
 entries-requires c =
     let t = c.put-at in
     let n = c.from.ensures in (
-      c.requires.0.long,
-      omega (arith, c.requires.1, c.requires.0.bounded c.args.m, n),
-      subst (λ (k : ℕ). length (written_of c.args.queues.now c.args.m k) ≤ length (rest t.result t.new.buf)) (sym n) (left-room (sized c.args.buf.now c.args.m c.requires.0 c.requires.1 c.requires.2 c.put-at.ensures)),
+      omega (arith, c.requires.0, c.args.queues.now.room.bounded c.args.m, n),
+      subst (λ (k : ℕ). length (written_of c.args.queues.now.bytes c.args.m k) ≤ length (rest t.result t.new.buf)) (sym n) (left-room (sized c.args.buf.now c.args.m c.args.queues.now.room c.requires.0 c.requires.1 c.put-at.ensures)),
     )
 
 pub returns : goal.returns
 returns c =
     let t = c.put-at in
     let e = c.entries in
-    last-wrote (sized c.args.buf.now c.args.m c.requires.0 c.requires.1 c.requires.2 c.put-at.ensures) (subst (λ (k : ℕ). Wrote (rest t.result t.new.buf) (written_of c.args.queues.now c.args.m k) e.new.buf e.result) c.from.ensures e.ensures)
+    last-wrote (sized c.args.buf.now c.args.m c.args.queues.now.room c.requires.0 c.requires.1 c.put-at.ensures) (subst (λ (k : ℕ). Wrote (rest t.result t.new.buf) (written_of c.args.queues.now.bytes c.args.m k) e.new.buf e.result) c.from.ensures e.ensures)

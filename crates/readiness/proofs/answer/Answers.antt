@@ -10,27 +10,24 @@ use Rattle.readiness.proofs.answer.Goals as goal
 
 pub returns-then-all_finished : goal.returns-then-all_finished
 returns-then-all_finished c =
-    λ log ends journal.
-    answer-right c.args.table.now c.args.actors c.args.comms.now c.args.queues.now log ends journal
+    answer-right c.args.table.now c.args.actors c.args.site.now
     (record { mask = c.ready_mask-mask.result; count = ones c.ready_mask-mask.result; ending = case.Finished })
-    (c.ready_mask-mask.ensures log ends journal)
+    (c.ready_mask-mask.ensures)
     refl
     (rw (sym (c.all_finished.ensures ∙ ap (λ (n : ℕ). everyone_finished c.args.table.now n c.args.actors) c.actors-n.ensures) ∙ c.if-all_finished.true))
 
 pub returns-then-count-eq0 : goal.returns-then-count-eq0
 returns-then-count-eq0 c =
-    λ log ends journal.
-    answer-right c.args.table.now c.args.actors c.args.comms.now c.args.queues.now log ends journal
+    answer-right c.args.table.now c.args.actors c.args.site.now
     (record { mask = c.ready_mask-mask.result; count = ones c.ready_mask-mask.result; ending = case.Stuck })
-    (c.ready_mask-mask.ensures log ends journal)
+    (c.ready_mask-mask.ensures)
     refl
     (rw (sym (c.all_finished.ensures ∙ ap (λ (n : ℕ). everyone_finished c.args.table.now n c.args.actors) c.actors-n.ensures) ∙ c.if-all_finished.false, eq-eqb _ _ c.if-count-eq0.true))
 
 pub returns-else-count-eq0 : goal.returns-else-count-eq0
 returns-else-count-eq0 c =
-    λ log ends journal.
-    answer-right c.args.table.now c.args.actors c.args.comms.now c.args.queues.now log ends journal
+    answer-right c.args.table.now c.args.actors c.args.site.now
     (record { mask = c.ready_mask-mask.result; count = ones c.ready_mask-mask.result; ending = case.Going })
-    (c.ready_mask-mask.ensures log ends journal)
+    (c.ready_mask-mask.ensures)
     refl
     (rw (sym (c.all_finished.ensures ∙ ap (λ (n : ℕ). everyone_finished c.args.table.now n c.args.actors) c.actors-n.ensures) ∙ c.if-all_finished.false, ne_eqb _ _ c.if-count-eq0.false))

@@ -17,7 +17,7 @@ pub returns-clause-lent : goal.returns-clause-lent
 returns-clause-lent c =
     let x = c.args in
     let m = c.make.new in
-    let T = MatchResult-at_ok (Through x.table.now (schedule_by x.table.now x.policy) m.comms m.log m.ends m.queues m.journal m.names) _ _ c.unwrap-played.ensures c.make.ensures in
+    let T = MatchResult-at_ok (Through x.table.now (schedule_by x.table.now x.policy) m.site m.names) _ _ c.unwrap-played.ensures c.make.ensures in
     (rest-accepted 256 23 (read_of x.table.now) (schedule_by x.table.now x.policy) x.entries.now _ _ _ c.if-entries-lt256.false
     (sym c.in_ok-read.ensures.result_value) refl T.counted
     (c.write.ensures

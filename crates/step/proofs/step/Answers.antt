@@ -18,17 +18,15 @@ use Rattle.model.specs.Local.{Seen, pick_up_seen, place_seen, is_seen, cells_aft
 use Rattle.model.specs.Step.{taken, waiting}
 use Rattle.std.proofs.Common.{Result}
 use Rattle.state.specs.State.{next_of}
+use Rattle.state.specs.declared.arrays.Site.{Site as Arrays}
 use Rattle.state.specs.declared.Hold.{Hold}
 use Rattle.step.proofs.step.Goals as goal
 use Rattle.step.proofs.step.Goals.{in-Set, in-Add+in_ok-adding-in-Add, in-Lesser, in-Send, in-Receive, in-TestAny, in-WaitAny+in_ok-awaited-in-WaitAny, in-Lock, in-Unlock, in-MutexTest, in-MutexWait+in_ok-awaited-in-MutexWait, in-Note}
 
--- what the arrays hold where the arms join is what the arm left in them
-joined : {table : List ℕ} {a : ℕ} {x : Action} {r : Actor} {s : Result Actor Hold} {comms log ends queues journal c l e q j comms' log' ends' queues' journal' : List ℕ}
-    → c ≡ comms' → l ≡ log' → e ≡ ends' → q ≡ queues' → j ≡ journal'
-    → next_of table a r ≡ x
-    → StepTaken table a x r comms log ends queues journal comms' log' ends' queues' journal' s
-    → StepTaken table a (next_of table a r) r comms log ends queues journal c l e q j s
-joined cs ls es qs js is t = rw (cs, ls, es, qs, js) (of-next _ is t)
+-- the site where the arms join is what the arm left
+joined : {table : List ℕ} {a : ℕ} {x : Action} {r : Actor} {s : Result Actor Hold} {before after left : Arrays} → after ≡ left → next_of table a r ≡ x
+    → StepTaken table a x r before left s → StepTaken table a (next_of table a r) r before after s
+joined same is t = rw same (of-next _ is t)
 
 -- the record that is handed back, by the one that the arm made of the actor's
 handed : (r next : Actor) {made after : Actor} {cells : List ℕ} → (next.position ≡ after.position + 1) × (next.cells ≡ after.cells) → after ≡ made
@@ -85,35 +83,35 @@ pub returns : goal.returns
 unfolding cells_after
 returns c =
     elim c.match-action.branch [
-      | in-Set w ↦ joined w.comms-is w.log-is w.ends-is w.queues-is w.journal-is (sym w.in-Set.ensures)
+      | in-Set w ↦ joined w.site-is (sym w.in-Set.ensures)
           (quiet c.requires _ c.next.result refl refl (handed c.args.r c.next.result c.next.ensures w.after-is w.put-after.ensures))
-      | in-Add+in_ok-adding-in-Add w ↦ joined w.comms-is w.log-is w.ends-is w.queues-is w.journal-is (sym w.in-Add.ensures)
+      | in-Add+in_ok-adding-in-Add w ↦ joined w.site-is (sym w.in-Add.ensures)
           (quiet c.requires _ c.next.result refl w.in_ok-adding-in-Add.ensures (handed c.args.r c.next.result c.next.ensures w.after-is w.add-after.ensures))
-      | in-Lesser w ↦ joined w.comms-is w.log-is w.ends-is w.queues-is w.journal-is (sym w.in-Lesser.ensures)
+      | in-Lesser w ↦ joined w.site-is (sym w.in-Lesser.ensures)
           (quiet c.requires _ c.next.result refl refl (handed c.args.r c.next.result c.next.ensures w.after-is w.lesser-after.ensures))
-      | in-Send w ↦ joined w.comms-is w.log-is w.ends-is w.queues-is w.journal-is (sym w.in-Send.ensures)
+      | in-Send w ↦ joined w.site-is (sym w.in-Send.ensures)
           (posted c.requires _ c.next.result (sends_at w.in-Send.mailbox) (get_or c.args.r.cells w.in-Send.cell 0) refl refl refl w.send.ensures (handed c.args.r c.next.result c.next.ensures w.after-is (refl, refl)))
-      | in-Receive w ↦ joined w.comms-is w.log-is w.ends-is w.queues-is w.journal-is (sym w.in-Receive.ensures)
+      | in-Receive w ↦ joined w.site-is (sym w.in-Receive.ensures)
           (posted c.requires _ c.next.result (receives_at w.in-Receive.mailbox) 0 refl refl refl w.receive.ensures (handed c.args.r c.next.result c.next.ensures w.after-is (refl, refl)))
-      | in-TestAny w ↦ joined w.comms-is w.log-is w.ends-is w.queues-is w.journal-is (sym w.in-TestAny.ensures)
+      | in-TestAny w ↦ joined w.site-is (sym w.in-TestAny.ensures)
           (quiet c.requires _ c.next.result refl refl (handed c.args.r c.next.result c.next.ensures w.after-is
           (looked (action_of c.args.table.now c.args.a) w.in-TestAny.result c.args.r w.picked.result w.told-after.result w.communications-seen.ensures w.picked.ensures w.told-after.ensures)))
-      | in-WaitAny+in_ok-awaited-in-WaitAny w ↦ joined w.comms-is w.log-is w.ends-is w.queues-is w.journal-is (sym w.in-WaitAny.ensures)
+      | in-WaitAny+in_ok-awaited-in-WaitAny w ↦ joined w.site-is (sym w.in-WaitAny.ensures)
           (quiet c.requires _ c.next.result refl (w.in_ok-awaited-in-WaitAny.ensures ∙ ap (λ (f : Seen). cond (is_seen f) taken waiting) w.communications-seen-in-WaitAny.ensures)
           (handed c.args.r c.next.result c.next.ensures w.after-is
           (looked (action_of c.args.table.now c.args.a) w.in-WaitAny.result c.args.r w.picked-in-WaitAny.result w.told-after-in-WaitAny.result
           w.communications-seen-in-WaitAny.ensures w.picked-in-WaitAny.ensures w.told-after-in-WaitAny.ensures)))
-      | in-Lock w ↦ joined w.comms-is w.log-is w.ends-is w.queues-is w.journal-is (sym w.in-Lock.ensures)
+      | in-Lock w ↦ joined w.site-is (sym w.in-Lock.ensures)
           (queued c.requires _ c.next.result (joins w.in-Lock.mutex) refl refl (λ me v mail. refl) (λ me v entries. refl) w.join.ensures (handed c.args.r c.next.result c.next.ensures w.after-is (refl, refl)))
-      | in-Unlock w ↦ joined w.comms-is w.log-is w.ends-is w.queues-is w.journal-is (sym w.in-Unlock.ensures)
+      | in-Unlock w ↦ joined w.site-is (sym w.in-Unlock.ensures)
           (queued c.requires _ c.next.result (leaves w.in-Unlock.mutex) refl refl (λ me v mail. refl) (λ me v entries. refl) w.leave.ensures (handed c.args.r c.next.result c.next.ensures w.after-is (refl, refl)))
-      | in-MutexTest w ↦ joined w.comms-is w.log-is w.ends-is w.queues-is w.journal-is (sym w.in-MutexTest.ensures)
+      | in-MutexTest w ↦ joined w.site-is (sym w.in-MutexTest.ensures)
           (quiet c.requires _ c.next.result refl refl (handed c.args.r c.next.result c.next.ensures w.after-is
           (w.told-after-in-MutexTest.ensures.0, w.told-after-in-MutexTest.ensures.1 ∙ ap (λ (f : Seen). set c.args.r.cells w.in-MutexTest.result (place_seen f)) w.mutexes.ensures)))
-      | in-MutexWait+in_ok-awaited-in-MutexWait w ↦ joined w.comms-is w.log-is w.ends-is w.queues-is w.journal-is (sym w.in-MutexWait.ensures)
+      | in-MutexWait+in_ok-awaited-in-MutexWait w ↦ joined w.site-is (sym w.in-MutexWait.ensures)
           (quiet c.requires _ c.next.result refl (w.in_ok-awaited-in-MutexWait.ensures ∙ ap (λ (f : Seen). cond (is_seen f) taken waiting) w.mutexes-seen.ensures)
           (handed c.args.r c.next.result c.next.ensures w.after-is
           (w.told-after-in-MutexWait.ensures.0, w.told-after-in-MutexWait.ensures.1 ∙ ap (λ (f : Seen). set c.args.r.cells w.in-MutexWait.result (place_seen f)) w.mutexes-seen.ensures)))
-      | in-Note w ↦ joined w.comms-is w.log-is w.ends-is w.queues-is w.journal-is (sym w.in-Note.ensures)
+      | in-Note w ↦ joined w.site-is (sym w.in-Note.ensures)
           (noted c.requires w.in-Note.cell c.next.result w.add.ensures (handed c.args.r c.next.result c.next.ensures w.after-is (refl, refl)))
     ]
