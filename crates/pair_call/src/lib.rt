@@ -10,7 +10,13 @@ use answers::{PairVerdict, Refusal};
 use table::access;
 
 // Whether two steps, by their names, are dependent.
-pub fn pair(table: &[u8], actor: u8, action: u8, actor2: u8, action2: u8) -> Result<PairVerdict, Refusal>
+pub fn pair(
+    table: &[u8],
+    actor: u8,
+    action: u8,
+    actor2: u8,
+    action2: u8,
+) -> Result<PairVerdict, Refusal>
     ensures { pair_result result ≡ pair_of table.now (name actor action) (name actor2 action2) }
 {
     reader::read(table)?;
