@@ -1,36 +1,31 @@
 -- A test of every kind, or of every two, which computes; and what it says of each.
 -- Assumes nothing.
-use Prim.Native.Nat.{ℕ, zero, suc, ◌≤◌, ◌<◌}
-use native.Mathlib.Omega.{arith}
 use mathlib.Core.Path.{◌≡◌}
-use mathlib.Core.Logic.{◌⊎◌, inl, inr}
-use mathlib.Core.Bool.{Bool, true, false, ◌&&◌}
-use lib.Dec.{eqb}
-use borrow.Author.Tests.{eqb-true, eqb-false}
-use Rattle.table.specs.Kinds.{last_kind}
-use Rattle.trace.proofs.Bools.{which, and_left, and_right}
+use mathlib.Core.Bool.{Bool, true, ◌&&◌}
+use native.Mathlib.Omega.{arith}
+use Rattle.table.specs.declared.Kind.{Kind}
+use Rattle.table.specs.declared.Kind.TheVariants.{Set, Add, Lesser, Send, Receive, TestAny, WaitAny, Lock, Unlock, MutexTest, MutexWait, Note}
 
--- it passes at each number below n
-abbrev pub every_below : (ℕ → Bool) → ℕ → Bool
-every_below f zero = true
-every_below f (suc n) = f n && every_below f n
+abbrev pub every_kind : (Kind → Bool) → Bool
+every_kind f =
+    f Set && (f Add && (f Lesser && (f Send && (f Receive && (f TestAny && (f WaitAny && (f Lock && (f Unlock && (f MutexTest && (f MutexWait && f Note))))))))))
 
-abbrev pub every_kind : (ℕ → Bool) → Bool
-every_kind f = every_below f (suc last_kind)
-
-abbrev pub every_two : (ℕ → ℕ → Bool) → Bool
+abbrev pub every_two : (Kind → Kind → Bool) → Bool
 every_two f = every_kind (λ i. every_kind (f i))
 
-at-below : (f : ℕ → Bool) (n : ℕ) → every_below f n ≡ true → (i : ℕ) → i < n → f i ≡ true
-at-below f zero t i h = absurd (omega arith)
-at-below f (suc n) t i h = go (which (eqb i n)) (at-below f n (and_right (f n) (every_below f n) t) i)
-  where
-    go : (eqb i n ≡ true) ⊎ (eqb i n ≡ false) → (i < n → f i ≡ true) → f i ≡ true
-    go (inl e) below = rw (eqb-true i n e) (and_left (f n) (every_below f n) t)
-    go (inr e) below = let ne : i ≡ n → ⊥ = eqb-false i n e in below (omega arith)
+pub at-kind : (f : Kind → Bool) → every_kind f ≡ true → (i : Kind) → f i ≡ true
+at-kind f t Set = grind arith
+at-kind f t Add = grind arith
+at-kind f t Lesser = grind arith
+at-kind f t Send = grind arith
+at-kind f t Receive = grind arith
+at-kind f t TestAny = grind arith
+at-kind f t WaitAny = grind arith
+at-kind f t Lock = grind arith
+at-kind f t Unlock = grind arith
+at-kind f t MutexTest = grind arith
+at-kind f t MutexWait = grind arith
+at-kind f t Note = grind arith
 
-pub at-kind : (f : ℕ → Bool) → every_kind f ≡ true → (i : ℕ) → i ≤ last_kind → f i ≡ true
-at-kind f t i h = at-below f (suc last_kind) t i (omega arith)
-
-pub at-two : (f : ℕ → ℕ → Bool) → every_two f ≡ true → (i j : ℕ) → i ≤ last_kind → j ≤ last_kind → f i j ≡ true
-at-two f t i j hi hj = at-kind (f i) (at-kind (λ k. every_kind (f k)) t i hi) j hj
+pub at-two : (f : Kind → Kind → Bool) → every_two f ≡ true → (i j : Kind) → f i j ≡ true
+at-two f t i j = at-kind (f i) (at-kind (λ k. every_kind (f k)) t i) j

@@ -1,25 +1,27 @@
 -- What an action is, besides its cells: its kind, the mailbox or mutex that it is on, and what it lists; and what it posts and looks at, by these.
 -- Assumes nothing: these are definitions.
-use Rattle.std.specs.Prelude.{ℕ, List, [], ◌∷◌, get_or}
+use Rattle.std.specs.Prelude.{ℕ, List, []}
 use Rattle.table.specs.declared.Action.{Action}
 use Rattle.table.specs.declared.Action.TheVariants.{Set, Add, Lesser, Send, Receive, TestAny, WaitAny, Lock, Unlock, MutexTest, MutexWait, Note}
+use Rattle.table.specs.declared.Kind.{Kind}
+use Rattle.table.specs.declared.Kind.TheVariants as kind
 use Rattle.model.specs.Site.{Port, sends, receives}
 use Rattle.model.specs.Views.{Post, silent, mails, joins, leaves, notes, posts, Look, blind, communications, mutexes, looks}
 
--- the number of its kind
-abbrev pub kind_of : Action → ℕ
-kind_of (Set cell value) = 0
-kind_of (Add cell other) = 1
-kind_of (Lesser cell other) = 2
-kind_of (Send mailbox cell) = 3
-kind_of (Receive mailbox cell) = 4
-kind_of (TestAny result list) = 5
-kind_of (WaitAny result list) = 6
-kind_of (Lock mutex) = 7
-kind_of (Unlock mutex) = 8
-kind_of (MutexTest result list) = 9
-kind_of (MutexWait result list) = 10
-kind_of (Note cell) = 11
+-- its kind
+abbrev pub kind_of : Action → Kind
+kind_of (Set cell value) = kind.Set
+kind_of (Add cell other) = kind.Add
+kind_of (Lesser cell other) = kind.Lesser
+kind_of (Send mailbox cell) = kind.Send
+kind_of (Receive mailbox cell) = kind.Receive
+kind_of (TestAny result list) = kind.TestAny
+kind_of (WaitAny result list) = kind.WaitAny
+kind_of (Lock mutex) = kind.Lock
+kind_of (Unlock mutex) = kind.Unlock
+kind_of (MutexTest result list) = kind.MutexTest
+kind_of (MutexWait result list) = kind.MutexWait
+kind_of (Note cell) = kind.Note
 
 -- the mailbox of a Send or a Receive, the mutex of a Lock or an Unlock
 abbrev pub target_in : Post → ℕ
@@ -41,7 +43,7 @@ list_in (mutexes l) = l
 abbrev pub list_of : Action → List ℕ
 list_of x = list_in (looks x)
 
--- ---- what an action of kind i posts, on the mailbox or mutex m, and what it looks at, where it lists l
+-- ---- what an action of a kind posts, on the mailbox or mutex m, and what it looks at, where it lists l
 
 abbrev pub sending : ℕ → Port
 sending m = record { mailbox = m; side = sends }
@@ -49,16 +51,30 @@ sending m = record { mailbox = m; side = sends }
 abbrev pub receiving : ℕ → Port
 receiving m = record { mailbox = m; side = receives }
 
-abbrev pub post_by : ℕ → ℕ → Post
-post_by i m =
-    get_or
-    (silent ∷ silent ∷ silent ∷ mails (sending m) ∷ mails (receiving m) ∷ silent ∷ silent ∷ joins m ∷ leaves m ∷ silent ∷ silent ∷ notes ∷ [])
-    i
-    silent
+abbrev pub post_by : Kind → ℕ → Post
+post_by kind.Set m = silent
+post_by kind.Add m = silent
+post_by kind.Lesser m = silent
+post_by kind.Send m = mails (sending m)
+post_by kind.Receive m = mails (receiving m)
+post_by kind.TestAny m = silent
+post_by kind.WaitAny m = silent
+post_by kind.Lock m = joins m
+post_by kind.Unlock m = leaves m
+post_by kind.MutexTest m = silent
+post_by kind.MutexWait m = silent
+post_by kind.Note m = notes
 
-abbrev pub look_by : ℕ → List ℕ → Look
-look_by i l =
-    get_or
-    (blind ∷ blind ∷ blind ∷ blind ∷ blind ∷ communications l ∷ communications l ∷ blind ∷ blind ∷ mutexes l ∷ mutexes l ∷ [])
-    i
-    blind
+abbrev pub look_by : Kind → List ℕ → Look
+look_by kind.Set l = blind
+look_by kind.Add l = blind
+look_by kind.Lesser l = blind
+look_by kind.Send l = blind
+look_by kind.Receive l = blind
+look_by kind.TestAny l = communications l
+look_by kind.WaitAny l = communications l
+look_by kind.Lock l = blind
+look_by kind.Unlock l = blind
+look_by kind.MutexTest l = mutexes l
+look_by kind.MutexWait l = mutexes l
+look_by kind.Note l = blind

@@ -1,12 +1,13 @@
-// The answers of the public calls and their refusals. `specs/Answers` says what each stands for in the documents.
+// What the public calls answer, each a `Result`, and their refusals. `specs/Answers` says what each stands for in the documents.
 #![tactic(auto)]
 
 ghost use Rattle.std.specs.Prelude.{◌≡◌};
 ghost use Rattle.table.specs.Outcome.{number_of, position_of};
 ghost use Rattle.model.specs.Schedule.{first_numbers, second_numbers};
-ghost use Rattle.answers.specs.Answers.{stop_of, refusal_of};
+ghost use Rattle.answers.specs.declared.Refusal.TheVariants.{Table};
+ghost use Rattle.answers.specs.Answers.{numbers_of, recording_of, stop_of, refusal_of};
 
-use table::Reading;
+use table::Fault;
 
 // Why a schedule stops before its end, with the entry's index: it names no actor, a finished one, one that waits, or one whose Add would run over.
 #[derive(Clone, Copy)]
@@ -18,27 +19,23 @@ pub enum Stop {
 }
 
 impl Stop {
-    // The number where the schedule is the first, or the only one.
-    pub fn first_number(self) -> u32
-        ensures { result ≡ number_of (stop_of first_numbers self) }
+    // The number, by which of the schedules it is: the first, or the only one, or the second.
+    pub fn number(self, schedule: Recording) -> u32
+        ensures { result ≡ number_of (stop_of (numbers_of (recording_of schedule)) self) }
     {
-        match self {
-            Stop::Absent(_) => 11,
-            Stop::Finished(_) => 12,
-            Stop::Waiting(_) => 13,
-            Stop::Over(_) => 21,
-        }
-    }
-
-    // The number where the schedule is the second.
-    pub fn second_number(self) -> u32
-        ensures { result ≡ number_of (stop_of second_numbers self) }
-    {
-        match self {
-            Stop::Absent(_) => 14,
-            Stop::Finished(_) => 15,
-            Stop::Waiting(_) => 16,
-            Stop::Over(_) => 22,
+        match schedule {
+            Recording::First => match self {
+                Stop::Absent(_) => 11,
+                Stop::Finished(_) => 12,
+                Stop::Waiting(_) => 13,
+                Stop::Over(_) => 21,
+            },
+            Recording::Second => match self {
+                Stop::Absent(_) => 14,
+                Stop::Finished(_) => 15,
+                Stop::Waiting(_) => 16,
+                Stop::Over(_) => 22,
+            },
         }
     }
 
@@ -48,10 +45,7 @@ impl Stop {
         ensures second { result ≡ position_of (stop_of second_numbers self) }
     {
         match self {
-            Stop::Absent(i) => i,
-            Stop::Finished(i) => i,
-            Stop::Waiting(i) => i,
-            Stop::Over(i) => i,
+            Stop::Absent(i) | Stop::Finished(i) | Stop::Waiting(i) | Stop::Over(i) => i,
         }
     }
 }
@@ -60,7 +54,7 @@ impl Stop {
 // differ.
 #[derive(Clone, Copy)]
 pub enum Refusal {
-    Table(Reading),
+    Table(Fault),
     ReportRoom,
     First(Stop),
     Second(Stop),
@@ -77,10 +71,10 @@ impl Refusal {
         ensures { result ≡ number_of (refusal_of self) }
     {
         match self {
-            Refusal::Table(reading) => reading.number(),
+            Refusal::Table(fault) => fault.number(),
             Refusal::ReportRoom => 10,
-            Refusal::First(stop) => stop.first_number(),
-            Refusal::Second(stop) => stop.second_number(),
+            Refusal::First(stop) => stop.number(Recording::First),
+            Refusal::Second(stop) => stop.number(Recording::Second),
             Refusal::NoStep => 17,
             Refusal::RouteRoom => 18,
             Refusal::Different => 19,
@@ -94,24 +88,24 @@ impl Refusal {
         ensures { result ≡ position_of (refusal_of self) }
     {
         match self {
-            Refusal::Table(reading) => reading.position(),
-            Refusal::ReportRoom => 0,
-            Refusal::First(stop) => stop.position(),
-            Refusal::Second(stop) => stop.position(),
-            Refusal::NoStep => 0,
-            Refusal::RouteRoom => 0,
-            Refusal::Different => 0,
-            Refusal::PageRoom => 0,
-            Refusal::ScheduleRoom => 0,
+            Refusal::Table(fault) => fault.position(),
+            Refusal::First(stop) | Refusal::Second(stop) => stop.position(),
+            Refusal::ReportRoom
+            | Refusal::NoStep
+            | Refusal::RouteRoom
+            | Refusal::Different
+            | Refusal::PageRoom
+            | Refusal::ScheduleRoom => 0,
         }
     }
 }
 
-// The answer of a call that writes into a lent buffer, run, page, draw or route: the length of what was written.
-#[derive(Clone, Copy)]
-pub enum LengthAnswer {
-    Length(u32),
-    Refused(Refusal),
+impl From<Fault> for Refusal {
+    ghost from_gives = { λ fault refusal. refusal ≡ Table fault };
+
+    fn from(fault: Fault) -> Refusal {
+        Refusal::Table(fault)
+    }
 }
 
 // Whether every actor is finished, nobody is ready although not, or the site is going.
@@ -130,28 +124,18 @@ pub struct Readiness {
     pub ending: Ending,
 }
 
-// The answer of ready.
-#[derive(Clone, Copy)]
-pub enum ReadyAnswer {
-    Now(Readiness),
-    Refused(Refusal),
-}
-
-// The answer of pair: whether the two steps are dependent.
-#[derive(Clone, Copy)]
-pub enum PairAnswer {
+// Whether two steps are dependent.
+#[derive(Clone, Copy, PartialEq, Eq)]
+pub enum PairVerdict {
     Independent,
     Dependent,
-    Refused(Refusal),
 }
 
-// The answer of same and prefix: whether a chain of exchanges turns the first schedule, or its part, into the second; and how many pairs of steps were
-// compared.
-#[derive(Clone, Copy)]
-pub enum SameAnswer {
+// Whether a chain of exchanges turns the first schedule, or its part, into the second; and how many pairs of steps were compared.
+#[derive(Clone, Copy, PartialEq, Eq)]
+pub enum Comparison {
     Same(u32),
     Different(u32),
-    Refused(Refusal),
 }
 
 // One of two recordings.

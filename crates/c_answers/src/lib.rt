@@ -4,14 +4,11 @@
 
 ghost use Rattle.std.specs.Prelude.{◌≡◌};
 ghost use Rattle.table.specs.Answer.{outcome};
-ghost use Rattle.model.specs.Calls.{gives};
-ghost use Rattle.answers.specs.Answers.{length_result, readiness_of, ending_as, ready_result, pair_result, same_result, recording_of, part_of};
-ghost use Rattle.c_answers.specs.Fields.{check_fields, length_fields, ready_fields, ending_number, pair_fields, same_fields, recording_number, remainder_fields};
+ghost use Rattle.answers.specs.Answers.{length_result, ready_result, pair_result, same_result, part_of};
+ghost use Rattle.c_answers.specs.Fields.{check_fields, length_fields, ready_fields, pair_fields, same_fields, remainder_fields};
 
-use answers::{
-    Ending, LengthAnswer, PairAnswer, Part, Readiness, ReadyAnswer, Recording, SameAnswer,
-};
-use table::Reading;
+use answers::{Comparison, Ending, PairVerdict, Part, Readiness, Recording, Refusal};
+use table::Fault;
 
 // The refusal's number and position; 0 and 0 where the table is accepted.
 #[repr(C)]
@@ -21,12 +18,20 @@ pub struct OrderCheck {
     pub position: u32,
 }
 
-pub fn check(reading: Reading) -> OrderCheck
-    ensures { result ≡ check_fields (outcome reading) }
-{
-    OrderCheck {
-        refusal: reading.number(),
-        position: reading.position(),
+impl From<Result<(), Fault>> for OrderCheck {
+    ghost from_gives = { λ answer fields. fields ≡ check_fields (outcome answer) };
+
+    fn from(answer: Result<(), Fault>) -> OrderCheck {
+        match answer {
+            Ok(()) => OrderCheck {
+                refusal: 0,
+                position: 0,
+            },
+            Err(fault) => OrderCheck {
+                refusal: fault.number(),
+                position: fault.position(),
+            },
+        }
     }
 }
 
@@ -39,20 +44,22 @@ pub struct OrderLength {
     pub length: u32,
 }
 
-pub fn length(answer: LengthAnswer) -> OrderLength
-    ensures { result ≡ length_fields (length_result answer) }
-{
-    match answer {
-        LengthAnswer::Length(n) => OrderLength {
-            refusal: 0,
-            position: 0,
-            length: n,
-        },
-        LengthAnswer::Refused(r) => OrderLength {
-            refusal: r.number(),
-            position: r.position(),
-            length: 0,
-        },
+impl From<Result<u32, Refusal>> for OrderLength {
+    ghost from_gives = { λ answer fields. fields ≡ length_fields (length_result answer) };
+
+    fn from(answer: Result<u32, Refusal>) -> OrderLength {
+        match answer {
+            Ok(length) => OrderLength {
+                refusal: 0,
+                position: 0,
+                length,
+            },
+            Err(r) => OrderLength {
+                refusal: r.number(),
+                position: r.position(),
+                length: 0,
+            },
+        }
     }
 }
 
@@ -67,41 +74,30 @@ pub struct OrderReady {
     pub ending: u32,
 }
 
-pub fn ready(answer: ReadyAnswer) -> OrderReady
-    ensures { result ≡ ready_fields (ready_result answer) }
-{
-    match answer {
-        ReadyAnswer::Now(now) => readiness(now),
-        ReadyAnswer::Refused(r) => OrderReady {
-            refusal: r.number(),
-            position: r.position(),
-            mask: 0,
-            count: 0,
-            ending: 0,
-        },
-    }
-}
+impl From<Result<Readiness, Refusal>> for OrderReady {
+    ghost from_gives = { λ answer fields. fields ≡ ready_fields (ready_result answer) };
 
-fn readiness(now: Readiness) -> OrderReady
-    ensures { result ≡ ready_fields (gives (readiness_of now)) }
-{
-    let ending = now.ending;
-    OrderReady {
-        refusal: 0,
-        position: 0,
-        mask: now.mask,
-        count: now.count,
-        ending: number_of(ending),
-    }
-}
-
-fn number_of(ending: Ending) -> u32
-    ensures { result ≡ ending_number (ending_as ending) }
-{
-    match ending {
-        Ending::Finished => 0,
-        Ending::Stuck => 1,
-        Ending::Going => 2,
+    fn from(answer: Result<Readiness, Refusal>) -> OrderReady {
+        match answer {
+            Ok(now) => OrderReady {
+                refusal: 0,
+                position: 0,
+                mask: now.mask,
+                count: now.count,
+                ending: match now.ending {
+                    Ending::Finished => 0,
+                    Ending::Stuck => 1,
+                    Ending::Going => 2,
+                },
+            },
+            Err(r) => OrderReady {
+                refusal: r.number(),
+                position: r.position(),
+                mask: 0,
+                count: 0,
+                ending: 0,
+            },
+        }
     }
 }
 
@@ -114,25 +110,25 @@ pub struct OrderPair {
     pub verdict: u32,
 }
 
-pub fn pair(answer: PairAnswer) -> OrderPair
-    ensures { result ≡ pair_fields (pair_result answer) }
-{
-    match answer {
-        PairAnswer::Independent => OrderPair {
-            refusal: 0,
-            position: 0,
-            verdict: 0,
-        },
-        PairAnswer::Dependent => OrderPair {
-            refusal: 0,
-            position: 0,
-            verdict: 1,
-        },
-        PairAnswer::Refused(r) => OrderPair {
-            refusal: r.number(),
-            position: r.position(),
-            verdict: 0,
-        },
+impl From<Result<PairVerdict, Refusal>> for OrderPair {
+    ghost from_gives = { λ answer fields. fields ≡ pair_fields (pair_result answer) };
+
+    fn from(answer: Result<PairVerdict, Refusal>) -> OrderPair {
+        match answer {
+            Ok(verdict) => OrderPair {
+                refusal: 0,
+                position: 0,
+                verdict: match verdict {
+                    PairVerdict::Independent => 0,
+                    PairVerdict::Dependent => 1,
+                },
+            },
+            Err(r) => OrderPair {
+                refusal: r.number(),
+                position: r.position(),
+                verdict: 0,
+            },
+        }
     }
 }
 
@@ -146,28 +142,30 @@ pub struct OrderSame {
     pub pairs: u32,
 }
 
-pub fn same(answer: SameAnswer) -> OrderSame
-    ensures { result ≡ same_fields (same_result answer) }
-{
-    match answer {
-        SameAnswer::Same(pairs) => OrderSame {
-            refusal: 0,
-            position: 0,
-            verdict: 1,
-            pairs,
-        },
-        SameAnswer::Different(pairs) => OrderSame {
-            refusal: 0,
-            position: 0,
-            verdict: 0,
-            pairs,
-        },
-        SameAnswer::Refused(r) => OrderSame {
-            refusal: r.number(),
-            position: r.position(),
-            verdict: 0,
-            pairs: 0,
-        },
+impl From<Result<Comparison, Refusal>> for OrderSame {
+    ghost from_gives = { λ answer fields. fields ≡ same_fields (same_result answer) };
+
+    fn from(answer: Result<Comparison, Refusal>) -> OrderSame {
+        match answer {
+            Ok(Comparison::Different(pairs)) => OrderSame {
+                refusal: 0,
+                position: 0,
+                verdict: 0,
+                pairs,
+            },
+            Ok(Comparison::Same(pairs)) => OrderSame {
+                refusal: 0,
+                position: 0,
+                verdict: 1,
+                pairs,
+            },
+            Err(r) => OrderSame {
+                refusal: r.number(),
+                position: r.position(),
+                verdict: 0,
+                pairs: 0,
+            },
+        }
     }
 }
 
@@ -180,22 +178,17 @@ pub struct OrderRemainder {
     pub length: usize,
 }
 
-pub fn remainder(part: Part) -> OrderRemainder
-    ensures { result ≡ remainder_fields (part_of part) }
-{
-    let recording = part.recording;
-    OrderRemainder {
-        recording: recording_number(recording),
-        from: part.from,
-        length: part.length,
-    }
-}
+impl From<Part> for OrderRemainder {
+    ghost from_gives = { λ part fields. fields ≡ remainder_fields (part_of part) };
 
-fn recording_number(recording: Recording) -> u32
-    ensures { result ≡ recording_number (recording_of recording) }
-{
-    match recording {
-        Recording::First => 1,
-        Recording::Second => 2,
+    fn from(part: Part) -> OrderRemainder {
+        OrderRemainder {
+            recording: match part.recording {
+                Recording::First => 1,
+                Recording::Second => 2,
+            },
+            from: part.from,
+            length: part.length,
+        }
     }
 }

@@ -23,7 +23,7 @@ use Rattle.trace.proofs.Verdict.{SameParts, same_parts}
 use Rattle.model.specs.Site.{name, initial}
 use Rattle.model.specs.Pair.{depends}
 use Rattle.model.specs.Schedule.{machine}
-use Rattle.model.specs.Calls.{in_table}
+use Rattle.model.specs.Calls.{in_table, same, different}
 use Rattle.model.specs.Route.{most_exchanges}
 use Rattle.model.proofs.Laws.{laws}
 use Rattle.model.proofs.Invariant.{inv-initial}
@@ -33,11 +33,13 @@ use Rattle.names.specs.InByte.{name_of}
 use Rattle.names.specs.Names.{names_in}
 use Rattle.names.specs.Steps.{Stands}
 use Rattle.names.proofs.Steps.{in-table}
-use Rattle.equivalence.specs.declared.Comparison.{Comparison}
+use Rattle.answers.specs.declared.Comparison.{Comparison}
+use Rattle.answers.specs.declared.Comparison.TheVariants.{Different}
+use Rattle.answers.specs.Answers.{comparison_as}
 use Rattle.equivalence.specs.Compared.{Compared}
 use Rattle.equivalence.specs.Judged.{Judges}
 use Rattle.routing.specs.Routable.{Routable}
-use Rattle.comparison.specs.Traces.{Kept}
+use Rattle.comparison.specs.Traces.{Kept, Verdict}
 use Rattle.trace.proofs.OwnOrder.{one-order}
 
 module _ (table schedule bytes : List ℕ) (fine : accepted (machine table) initial schedule ≡ true) (K : Kept table schedule bytes) where
@@ -56,15 +58,10 @@ module _ (table schedule bytes : List ℕ) (fine : accepted (machine table) init
 once : (table schedule : List ℕ) → accepted (machine table) initial schedule ≡ true → Distinct (names (machine table) initial schedule)
 once table schedule fine = names-distinct (laws table) initial schedule (inv-initial table) fine
 
--- schedules of different lengths are different
-pub lengths-apart : (table first second : List ℕ) → (length first ≡ length second → ⊥) → equivalent (machine table) initial first second ≡ false
-unfolding equivalent
+-- schedules of different lengths are different, and none of their pairs is compared
+pub lengths-apart : (table first second : List ℕ) → (length first ≡ length second → ⊥) → Verdict table first second (Different 0)
+unfolding equivalent pairs_compared
 lengths-apart table first second h = rw (ne_eqb (length first) (length second) h)
-
--- and none of their pairs is compared
-pub none-compared : (table first second : List ℕ) → (length first ≡ length second → ⊥) → pairs_compared (machine table) initial first second ≡ 0
-unfolding pairs_compared
-none-compared table first second h = rw (ne_eqb (length first) (length second) h)
 
 module _ (table first second first_bytes second_bytes : List ℕ) (first_fine : accepted (machine table) initial first ≡ true)
     (second-fine : accepted (machine table) initial second ≡ true) (K : Kept table first first_bytes) (J : Kept table second second_bytes)
@@ -103,22 +100,22 @@ module _ (table first second first_bytes second_bytes : List ℕ) (first_fine : 
     by-schedules : Judges (depends table) (names (machine table) initial first) (names (machine table) initial second) r
     by-schedules = rw (K.names-right, second-names) at judges
 
-    pub verdict : equivalent (machine table) initial first second ≡ r.same
-    unfolding equivalent
+    pub verdict : Verdict table first second r
+    unfolding equivalent pairs_compared
     verdict =
-        ap (λ (b : Bool). b && not (reorders (depends table) (names (machine table) initial first) (names (machine table) initial second))) by_names
-        ∙ sym by-schedules.verdict
-
-    pub number : pairs_compared (machine table) initial first second ≡ r.pairs
-    unfolding pairs_compared
-    number =
-        (λ k.
-        cond (by_names k)
+        let same_verdict =
+        by-schedules.verdict
+        ∙ ap (λ (b : Bool). cond (b && not (reorders (depends table) (names (machine table) initial first) (names (machine table) initial second))) same different)
+        (sym by_names) in
+        let same_number : (comparison_as r).pairs ≡ cond (same_steps (machine table) initial first second) (compared_in (search (opposed (depends table) (names (machine table) initial first) (names (machine table) initial second)) (length first))) 0 =
+        by-schedules.counted
+        ∙ (λ k.
+        cond (sym by_names k)
         (compared_in
         (search (opposed (depends table) (names (machine table) initial first) (names (machine table) initial second))
-        (sym (names-length (machine table) initial first) k)))
-        0)
-        ∙ sym by-schedules.counted
+        (names-length (machine table) initial first k)))
+        0) in
+        λ k. record { verdict = same_verdict k; pairs = same_number k }
 
   -- the route by names is the schedules' route
   pub route-names : route_from 0 (names_in (length first) first_bytes) (names_in (length first) second_bytes) ≡ route (machine table) initial first second

@@ -12,6 +12,8 @@ use Rattle.model.specs.Pair.{is_join, is_note, competes, answers, any_of, meets}
 use Rattle.model.proofs.Upd.{test-symmetric}
 use Rattle.model.proofs.Ports.{number-test}
 use Rattle.actions.specs.Fields.{target_in, list_in}
+use Rattle.dependence.specs.declared.Compared.{Compared}
+use Rattle.dependence.specs.declared.Compared.TheVariants.{Never, OneMailbox, ListedReceive, ListedSend, OneMutex, ListedMutex, Always}
 use Rattle.dependence.specs.Codes.{code_compares}
 use Rattle.dependence.proofs.MailKinds.{is_side, port, on-port, mail-by-kind}
 
@@ -32,18 +34,18 @@ is_unlock (leaves m) = true
 is_unlock notes = false
 
 -- to tell whether two posts compete
-abbrev pub of_posts : Post → Post → ℕ
-of_posts silent y = 0
-of_posts (mails p) y = cond (is_side p.side y) 1 0
-of_posts (joins m) y = cond (is_lock y) 4 0
-of_posts (leaves m) y = 0
-of_posts notes y = cond (is_note y) 6 0
+abbrev pub of_posts : Post → Post → Compared
+of_posts silent y = Never
+of_posts (mails p) y = cond (is_side p.side y) OneMailbox Never
+of_posts (joins m) y = cond (is_lock y) OneMutex Never
+of_posts (leaves m) y = Never
+of_posts notes y = cond (is_note y) Always Never
 
 -- to tell whether a look meets a post
-abbrev pub of_look : Look → Post → ℕ
-of_look blind y = 0
-of_look (communications l) y = cond (is_side sends y) 2 (cond (is_side receives y) 3 0)
-of_look (mutexes l) y = cond (is_unlock y) 5 0
+abbrev pub of_look : Look → Post → Compared
+of_look blind y = Never
+of_look (communications l) y = cond (is_side sends y) ListedReceive (cond (is_side receives y) ListedSend Never)
+of_look (mutexes l) y = cond (is_unlock y) ListedMutex Never
 
 -- ---- whether two posts compete
 
@@ -56,11 +58,11 @@ on-mutex m notes = refl
 
 module _ (own : ℕ → Action) (l : List ℕ) where
   -- a comparison that is made only where a test passes
-  only-where : (test : Bool) (code m n : ℕ) → (test && code_compares code own m l n) ≡ code_compares (cond test code 0) own m l n
+  only-where : (test : Bool) (code : Compared) (m n : ℕ) → (test && code_compares code own m l n) ≡ code_compares (cond test code Never) own m l n
   only-where true code m n = refl
   only-where false code m n = refl
 
-  -- codes 1 and 4 compare the two numbers
+  -- `OneMailbox` and `OneMutex` compare the two numbers
   one_number : (test : Bool) (m n : ℕ) → (test && eqb n m) ≡ (test && eqb m n)
   one_number test m n = ap (λ (b : Bool). test && b) (test-symmetric number-test n m)
 
@@ -69,12 +71,12 @@ module _ (own : ℕ → Action) (l : List ℕ) where
   competing (mails p) y =
       on-port p.mailbox p.side y
       ∙ one_number (is_side p.side y) p.mailbox (target_in y)
-      ∙ only-where (is_side p.side y) 1 p.mailbox (target_in y)
-  competing (joins m) y = on-mutex m y ∙ one_number (is_lock y) m (target_in y) ∙ only-where (is_lock y) 4 m (target_in y)
+      ∙ only-where (is_side p.side y) OneMailbox p.mailbox (target_in y)
+  competing (joins m) y = on-mutex m y ∙ one_number (is_lock y) m (target_in y) ∙ only-where (is_lock y) OneMutex m (target_in y)
   competing (leaves m) y = refl
   competing notes y = one-test (is_note y)
     where
-      one-test : (test : Bool) → test ≡ code_compares (cond test 6 0) own 0 l (target_in y)
+      one-test : (test : Bool) → test ≡ code_compares (cond test Always Never) own 0 l (target_in y)
       one-test true = refl
       one-test false = refl
 

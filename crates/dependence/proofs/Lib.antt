@@ -1,7 +1,8 @@
 -- The proofs of this crate that belong to no one function.
+pub mod SameCode
+pub mod CodeTable
+pub mod ListTests
+pub mod MailKinds
 pub mod Asked
 pub mod CodeLaw
 pub mod CodeRanges
-pub mod CodeTable
-pub mod ListPlaces
-pub mod MailKinds

@@ -1,17 +1,20 @@
--- What is posted on one side of a mailbox is told by the kind: 3 posts a Send, 4 a Receive, and no other kind does. One computed test over the kinds.
+-- What is posted on one side of a mailbox is told by the kind: a Send posts on one, a Receive on the other, and no other kind does. One computed
+-- test over the kinds.
 -- Assumes nothing.
 use Prim.Native.Nat.{ℕ}
 use mathlib.Core.Path.{◌≡◌, refl, ◌∙◌, ap}
 use mathlib.Core.Bool.{Bool, true, false, ◌&&◌, beq, and_comm, false≢true}
 use lib.Dec.{eqb}
 use Rattle.table.specs.declared.Action.{Action}
+use Rattle.table.specs.declared.Kind.{Kind}
+use Rattle.table.specs.declared.Kind.TheVariants.{Send, Receive}
 use Rattle.model.specs.Site.{Port, Side, sends, receives, eq_side}
 use Rattle.model.specs.Views.{Post, silent, mails, joins, leaves, notes, posts}
 use Rattle.model.specs.Pair.{is_mail}
 use Rattle.actions.specs.Fields.{kind_of, target_in, target_of, post_by}
-use Rattle.actions.proofs.ByKind.{by_kind}
+use Rattle.actions.proofs.ByKind.{posts-by}
 use Rattle.actions.proofs.EveryKind.{every_kind, at-kind}
-use Rattle.dependence.specs.Codes.{is_on}
+use Rattle.dependence.specs.Codes.{is, is_on}
 
 -- what is posted is a communication on this side, of whatever mailbox
 abbrev pub is_side : Side → Post → Bool
@@ -33,12 +36,12 @@ on-port m s notes = refl
 
 -- ---- by the kind
 
-abbrev kind_on : Side → ℕ
-kind_on sends = 3
-kind_on receives = 4
+abbrev kind_on : Side → Kind
+kind_on sends = Send
+kind_on receives = Receive
 
 -- the test
-all_told : (m : ℕ) (s : Side) → every_kind (λ i. beq (is_side s (post_by i m)) (eqb i (kind_on s))) ≡ true
+all_told : (m : ℕ) (s : Side) → every_kind (λ i. beq (is_side s (post_by i m)) (is i (kind_on s))) ≡ true
 all_told m sends = refl
 all_told m receives = refl
 
@@ -48,11 +51,11 @@ beq-equal true false h = absurd (false≢true h)
 beq-equal false true h = absurd (false≢true h)
 beq-equal false false h = refl
 
-told : (s : Side) (x : Action) → is_side s (posts x) ≡ eqb (kind_of x) (kind_on s)
+told : (s : Side) (x : Action) → is_side s (posts x) ≡ is (kind_of x) (kind_on s)
 told s x =
-    ap (is_side s) (by_kind x).posts-by
-    ∙ beq-equal (is_side s (post_by (kind_of x) (target_of x))) (eqb (kind_of x) (kind_on s))
-    (at-kind (λ i. beq (is_side s (post_by i (target_of x))) (eqb i (kind_on s))) (all_told (target_of x) s) (kind_of x) (by_kind x).kind-most)
+    ap (is_side s) (posts-by x)
+    ∙ beq-equal (is_side s (post_by (kind_of x) (target_of x))) (is (kind_of x) (kind_on s))
+    (at-kind (λ i. beq (is_side s (post_by i (target_of x))) (is i (kind_on s))) (all_told (target_of x) s) (kind_of x))
 
 pub mail-by-kind : (m : ℕ) (s : Side) (x : Action) → is_mail (posts x) (port m s) ≡ is_on (kind_on s) m x
 mail-by-kind m s x = on-port m s (posts x) ∙ ap (λ (b : Bool). b && eqb (target_of x) m) (told s x)

@@ -1,8 +1,7 @@
 // The pair verdict: whether two steps are dependent, by a table of comparison codes.
 #![tactic(auto)]
 
-ghost use Rattle.std.specs.Prelude.{◌≡◌, ◌≤◌, ◌&&◌, eqb, leb};
-ghost use Rattle.table.specs.Kinds.{last_kind};
+ghost use Rattle.std.specs.Prelude.{◌≡◌, true};
 ghost use Rattle.table.specs.Decode.{action_of};
 ghost use Rattle.table.specs.Promise.{WellFormed};
 ghost use Rattle.trace.specs.Order.{has};
@@ -11,26 +10,49 @@ ghost use Rattle.model.specs.Views.{listed};
 ghost use Rattle.model.specs.Pair.{any_of, depends};
 ghost use Rattle.names.specs.Steps.{Stands, Each};
 ghost use Rattle.actions.specs.Fields.{list_of};
-ghost use Rattle.dependence.specs.Codes.{is_on, code_of, comparison};
+ghost use Rattle.dependence.specs.Codes.{is_on, code_of, lists_own, comparison};
 
-use table::{Action, Numbers, within};
+use Compared::{Always, ListedMutex, ListedReceive, ListedSend, Never as No, OneMailbox, OneMutex};
+use table::{Action, Kind, Numbers, within};
 
-// Kind against kind, which comparison applies: 0 none, the two are independent; 1 one mailbox; 2 a listed Receive against a Send; 3 a listed Send
-// against a Receive; 4 one mutex; 5 a listed mutex against an Unlock; 6 none, the two are dependent. The columns are the kinds in the order of the rows.
-const CODES: [[u8; 12]; 12] = [
-    [0, 0, 0, 0, 0, 0, 0, 0, 0, 0, 0, 0], // Set
-    [0, 0, 0, 0, 0, 0, 0, 0, 0, 0, 0, 0], // Add
-    [0, 0, 0, 0, 0, 0, 0, 0, 0, 0, 0, 0], // Lesser
-    [0, 0, 0, 1, 0, 2, 2, 0, 0, 0, 0, 0], // Send
-    [0, 0, 0, 0, 1, 3, 3, 0, 0, 0, 0, 0], // Receive
-    [0, 0, 0, 2, 3, 0, 0, 0, 0, 0, 0, 0], // TestAny
-    [0, 0, 0, 2, 3, 0, 0, 0, 0, 0, 0, 0], // WaitAny
-    [0, 0, 0, 0, 0, 0, 0, 4, 0, 0, 0, 0], // Lock
-    [0, 0, 0, 0, 0, 0, 0, 0, 0, 5, 5, 0], // Unlock
-    [0, 0, 0, 0, 0, 0, 0, 0, 5, 0, 0, 0], // MutexTest
-    [0, 0, 0, 0, 0, 0, 0, 0, 5, 0, 0, 0], // MutexWait
-    [0, 0, 0, 0, 0, 0, 0, 0, 0, 0, 0, 6], // Note
+// What is compared of two actions, of which the first has the higher kind, or both the same.
+#[derive(Clone, Copy)]
+enum Compared {
+    // nothing: they are independent
+    Never,
+    // whether they are on one mailbox
+    OneMailbox,
+    // whether the first lists a Receive on the other's mailbox, a Send's
+    ListedReceive,
+    // whether the first lists a Send on the other's mailbox, a Receive's
+    ListedSend,
+    // whether they are on one mutex
+    OneMutex,
+    // whether the first lists the other's mutex, an Unlock's
+    ListedMutex,
+    // nothing: they are dependent
+    Always,
+}
+
+// Kind against kind, which comparison applies. The columns are the kinds in the order of the rows.
+#[rattlefmt::skip]
+const CODES: [[Compared; 12]; 12] = [
+    [No, No, No, No, No, No, No, No, No, No, No, No], // Set
+    [No, No, No, No, No, No, No, No, No, No, No, No], // Add
+    [No, No, No, No, No, No, No, No, No, No, No, No], // Lesser
+    [No, No, No, OneMailbox, No, ListedReceive, ListedReceive, No, No, No, No, No], // Send
+    [No, No, No, No, OneMailbox, ListedSend, ListedSend, No, No, No, No, No], // Receive
+    [No, No, No, ListedReceive, ListedSend, No, No, No, No, No, No, No], // TestAny
+    [No, No, No, ListedReceive, ListedSend, No, No, No, No, No, No, No], // WaitAny
+    [No, No, No, No, No, No, No, OneMutex, No, No, No, No], // Lock
+    [No, No, No, No, No, No, No, No, No, ListedMutex, ListedMutex, No], // Unlock
+    [No, No, No, No, No, No, No, No, ListedMutex, No, No, No], // MutexTest
+    [No, No, No, No, No, No, No, No, ListedMutex, No, No, No], // MutexWait
+    [No, No, No, No, No, No, No, No, No, No, No, Always], // Note
 ];
+
+// The same in memory: a constant array of an enum is built anew at each use.
+static CODES_KEPT: [[Compared; 12]; 12] = CODES;
 
 // Whether two steps of the table, actor·action each, are dependent.
 pub fn dependent(table: &[u8], a: usize, k: usize, b: usize, l: usize) -> bool
@@ -45,98 +67,49 @@ pub fn dependent(table: &[u8], a: usize, k: usize, b: usize, l: usize) -> bool
     let i = actions::kind(x);
     let j = actions::kind(y);
     let code = code(i, j);
-    if i < j {
+    if i.number() < j.number() {
         return compare(code, table, b, y, x);
     }
     compare(code, table, a, x, y)
 }
 
 // The table's entry for two kinds, which is the same in either order.
-fn code(i: usize, j: usize) -> u8
-    requires { (i ≤ last_kind) × (j ≤ last_kind) }
+fn code(i: Kind, j: Kind) -> Compared
     ensures { (result ≡ code_of i j) × (result ≡ code_of j i) }
 {
-    CODES[i][j]
+    CODES_KEPT[i.number()][j.number()]
 }
 
 // What a code compares of x, of actor a, and y.
-fn compare(code: u8, table: &[u8], a: usize, x: Action, y: Action) -> bool
-    requires { WellFormed table.now × (2 ≤ code → code ≤ 3 → Each (λ k. Stands table.now (name a k)) (list_of x)) }
+fn compare(code: Compared, table: &[u8], a: usize, x: Action, y: Action) -> bool
+    requires { WellFormed table.now × (lists_own code ≡ true → Each (λ k. Stands table.now (name a k)) (list_of x)) }
     ensures { result ≡ comparison code (action_of table.now a) x y }
 {
+    let n = actions::target(y);
     match code {
-        1 => actions::target(x) == actions::target(y),
-        2 => lists_mail(table, a, actions::list(x), 4, actions::target(y)),
-        3 => lists_mail(table, a, actions::list(x), 3, actions::target(y)),
-        4 => actions::target(x) == actions::target(y),
-        5 => lists_mutex(actions::list(x), actions::target(y)),
-        6 => true,
-        _ => false,
+        Compared::Never => false,
+        OneMailbox | OneMutex => actions::target(x) == n,
+        ListedReceive => lists_mail(table, a, actions::list(x), Kind::Receive, n),
+        ListedSend => lists_mail(table, a, actions::list(x), Kind::Send, n),
+        ListedMutex => lists_mutex(actions::list(x), n),
+        Always => true,
     }
 }
 
 // A list of actor a's actions names one of this kind on mailbox m.
-fn lists_mail(table: &[u8], a: usize, list: Numbers, kind: usize, m: usize) -> bool
+fn lists_mail(table: &[u8], a: usize, list: Numbers, kind: Kind, m: usize) -> bool
     requires { WellFormed table.now × Each (λ k. Stands table.now (name a k)) (listed list) }
     ensures { result ≡ any_of (λ k. is_on kind m (action_of table.now a k)) (listed list) }
 {
-    if mail_at(table, a, list.count, 1, list.n0, kind, m) {
-        return true;
-    }
-    if mail_at(table, a, list.count, 2, list.n1, kind, m) {
-        return true;
-    }
-    if mail_at(table, a, list.count, 3, list.n2, kind, m) {
-        return true;
-    }
-    mail_at(table, a, list.count, 4, list.n3, kind, m)
-}
-
-// A list of `count` numbers has this place, and action k of actor a there is of this kind on mailbox m.
-fn mail_at(
-    table: &[u8],
-    a: usize,
-    count: usize,
-    place: usize,
-    k: usize,
-    wanted: usize,
-    m: usize,
-) -> bool
-    requires { WellFormed table.now × (place ≤ count → Stands table.now (name a k)) }
-    ensures { result ≡ leb place count && is_on wanted m (action_of table.now a k) }
-{
-    if count < place {
-        return false;
-    }
-    let x = within::action(table, a, k);
-    if actions::kind(x) != wanted {
-        return false;
-    }
-    actions::target(x) == m
+    list.all.iter().take(list.count).any(|k| {
+        let x = within::action(table, a, *k);
+        actions::kind(x) == kind && actions::target(x) == m
+    })
 }
 
 // A list names mutex m.
 fn lists_mutex(list: Numbers, m: usize) -> bool
     ensures { result ≡ has (listed list) m }
 {
-    if mutex_at(list.count, 1, list.n0, m) {
-        return true;
-    }
-    if mutex_at(list.count, 2, list.n1, m) {
-        return true;
-    }
-    if mutex_at(list.count, 3, list.n2, m) {
-        return true;
-    }
-    mutex_at(list.count, 4, list.n3, m)
-}
-
-// A list of `count` numbers has this place, and mutex n there is m.
-fn mutex_at(count: usize, place: usize, n: usize, m: usize) -> bool
-    ensures { result ≡ leb place count && eqb m n }
-{
-    if count < place {
-        return false;
-    }
-    m == n
+    list.all.iter().take(list.count).any(|n| m == *n)
 }

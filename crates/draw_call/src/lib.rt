@@ -5,11 +5,11 @@ ghost use Rattle.std.specs.Prelude.{◌≡◌};
 ghost use Rattle.model.specs.Draw.{draw_of};
 ghost use Rattle.answers.specs.Answers.{length_result};
 
-use answers::LengthAnswer;
+use answers::Refusal;
 use policy::Policy;
 
 // Draws a schedule from a fresh site and writes its entries into the lent bytes.
-pub fn draw(table: &[u8], seed: u32, schedule: &mut [u8]) -> LengthAnswer
+pub fn draw(table: &[u8], seed: u32, schedule: &mut [u8]) -> Result<u32, Refusal>
     ensures answer { length_result result ≡ (draw_of table.now seed schedule.old).result }
     ensures lent { schedule.new ≡ (draw_of table.now seed schedule.old).lent }
 {

@@ -7,7 +7,10 @@ use mathlib.Core.Path.{◌≡◌, refl, ◌∙◌, ap}
 use mathlib.Core.Logic.{◌⊎◌, inl, inr}
 use mathlib.Core.Bool.{Bool, true, false, ◌||◌, false≢true}
 use Rattle.trace.proofs.Bools.{contrary, is_false, or_left, or_right, or_cases, or-crosswise}
-use Rattle.equivalence.specs.Parts.{any_below}
+
+abbrev pub any_below : (ℕ → Bool) → ℕ → Bool
+any_below f zero = false
+any_below f (suc n) = any_below f n || f n
 
 pub some_below : (f : ℕ → Bool) (n i : ℕ) → i < n → f i ≡ true → any_below f n ≡ true
 some_below f zero i h t = absurd (not-suc-le-zero h)

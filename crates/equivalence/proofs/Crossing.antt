@@ -9,6 +9,8 @@ use mathlib.Core.List.{List}
 use borrow.Author.Tests.{ltb-true}
 use lib.Dec.{ltb}
 use lib.ListN.{get_or}
+use Rattle.std.proofs.Common.{Option}
+use Rattle.table.specs.Promise.{WellFormed}
 use Rattle.trace.specs.Machine.{Name}
 use Rattle.trace.proofs.Bools.{which, and-shared}
 use Rattle.model.proofs.PairCases.{depends-symmetric}
@@ -17,17 +19,17 @@ use Rattle.footprint.specs.Resources.{posted, contested, looked, share, clash}
 use Rattle.footprint.specs.Latest.{latest_of, latest_met}
 use Rattle.footprint.proofs.Raised.{before-later}
 use Rattle.footprint.proofs.ClashDepends.{clash-depends}
-use Rattle.equivalence.specs.Parts.{any_below, crosses, Placed}
-use Rattle.equivalence.proofs.Below.{below_alike, below-either}
+use Rattle.equivalence.specs.Parts.{place_in, crosses, Placed}
+use Rattle.equivalence.proofs.Below.{any_below, below_alike, below-either}
 use Rattle.equivalence.proofs.Latest.{Latest, latest-some}
 
-module _ (table first places : List ℕ) where
+module _ (table first : List ℕ) (index : List (Option ℕ)) where
   -- step i and its place
   abbrev pub step_at : ℕ → Name
   step_at i = name_of (get_or first i 0)
 
   abbrev pub place_at : ℕ → ℕ
-  place_at i = get_or places i 0
+  place_at = place_in index first
 
   -- the latest places of the steps before j that post to a resource, and of those that look at it
   abbrev pub PostsBefore : List ℕ → ℕ → Type 0
@@ -56,22 +58,22 @@ module _ (table first places : List ℕ) where
         (λ i. (share (posted table (step_at j)) (looked table (step_at i)) || share (looked table (step_at j)) (posted table (step_at i))) && later i) j)
         ∙ below_alike _ _ j (λ i h. and-shared (share (contested table (step_at j)) (posted table (step_at i))) _ (later i))
 
-    module _ (m : ℕ) (placed : Placed table first places m) (here : j < m) where
+    module _ (m : ℕ) (accepted : WellFormed table) (placed : Placed table first index m) (here : j < m) where
       apart : (i : ℕ) → i < j → later i ≡ true → (step_at j).actor ≢ (step_at i).actor
       unfolding later
       apart i h t e = omega (arith, ltb-true (place_at j) (place_at i) t, placed.own-order i j h here (sym e))
 
-      crosses-one : (i : ℕ) → i < j → (clash table (step_at j) (step_at i) && later i) ≡ crosses table first places i j
+      crosses-one : (i : ℕ) → i < j → (clash table (step_at j) (step_at i) && later i) ≡ crosses table first place_at i j
       unfolding later
       crosses-one i h = go (which (later i))
         where
-          go : (later i ≡ true) ⊎ (later i ≡ false) → (clash table (step_at j) (step_at i) && later i) ≡ crosses table first places i j
+          go : (later i ≡ true) ⊎ (later i ≡ false) → (clash table (step_at j) (step_at i) && later i) ≡ crosses table first place_at i j
           go (inl t) =
               and_comm (clash table (step_at j) (step_at i)) (later i)
               ∙ ap (λ (b : Bool). later i && b)
-              (clash-depends table placed.accepted (step_at j) (step_at i) (placed.stand j here) (placed.stand i (omega arith)) (apart i h t)
+              (clash-depends table accepted (step_at j) (step_at i) (placed.stand j here) (placed.stand i (omega arith)) (apart i h t)
               ∙ depends-symmetric table (step_at j) (step_at i))
           go (inr f) = rw f (and-false (clash table (step_at j) (step_at i)))
 
-      pub crossing-test : ltb (place_at j) (latest_met table (step_at j) posts looks) ≡ any_below (λ i. crosses table first places i j) j
+      pub crossing-test : ltb (place_at j) (latest_met table (step_at j) posts looks) ≡ any_below (λ i. crosses table first place_at i j) j
       crossing-test = met-test ∙ below_alike _ _ j crosses-one

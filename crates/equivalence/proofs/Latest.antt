@@ -15,8 +15,7 @@ use Rattle.names.specs.Steps.{Each}
 use Rattle.footprint.specs.Resources.{share}
 use Rattle.footprint.specs.Latest.{latest_of, raised}
 use Rattle.footprint.proofs.Raised.{latest-test, raised-test}
-use Rattle.equivalence.specs.Parts.{any_below}
-use Rattle.equivalence.proofs.Below.{none_below, below_alike, below-either}
+use Rattle.equivalence.proofs.Below.{any_below, none_below, below_alike, below-either}
 
 -- `touched` says which resources the step i touches, `place` where it stands in the second list
 module _ (touched : ℕ → List ℕ) (place : ℕ → ℕ) where

@@ -1,6 +1,5 @@
 -- The proofs of this crate that belong to no one function.
 pub mod Below
-pub mod Locate
 pub mod Places
 pub mod Named
 pub mod Latest

@@ -1,76 +1,74 @@
--- The places of the first list's names in the second: all of them found means that the second has each of the first's names.
+-- The places of the first list's names in the second: none without one means that the second has each of the first's names.
 -- Assumes nothing.
-use Prim.Native.Nat.{ℕ, ◌/◌, ◌<◌, ◌≤◌}
+use Prim.Native.Nat.{ℕ, zero, suc, ◌/◌, ◌<◌, ◌≤◌}
 use native.Mathlib.Omega.{arith}
-use mathlib.Core.Path.{◌≡◌, sym, ◌∙◌}
-use mathlib.Core.Logic.{◌⊎◌, inl, inr}
-use mathlib.Core.Bool.{true, false, not}
-use mathlib.Core.List.{List}
-use borrow.Author.Tests.{eqb-true, eqb-false}
-use lib.ListN.{length, get_or}
-use Rattle.trace.specs.Machine.{Name}
+use mathlib.Core.Path.{◌≡◌, refl, sym, ◌∙◌, ap, ap₂}
+use mathlib.Core.Bool.{Bool, true, false, not, ◌&&◌, ◌||◌}
+use mathlib.Core.List.{List, [], ◌∷◌, map}
+use lib.ListN.{length, get_or, take}
+use Rattle.std.proofs.Common.{Option, Some, None}
+use Rattle.std.specs.List.{list_any}
 use Rattle.trace.specs.Order.{mem, within}
 use Rattle.trace.specs.Route.{place}
-use Rattle.trace.proofs.Bools.{which, contrary, is_false}
-use Rattle.trace.proofs.Names.{within-mem, mem-within}
+use Rattle.trace.proofs.Bools.{contrary, or-false-left, or-false-right}
 use Rattle.names.specs.InByte.{name_of}
 use Rattle.names.specs.Names.{names_in}
+use Rattle.names.specs.Steps.{Each}
 use Rattle.equivalence.specs.Compared.{Compared}
-use Rattle.equivalence.specs.Parts.{any_below, last_in, absent, Indexed}
-use Rattle.names.proofs.NamedBytes.{named_in, in-named}
-use Rattle.equivalence.proofs.Below.{below-some, below_none}
+use Rattle.equivalence.specs.Parts.{absent, place_of, place_in, Indexed}
 use Rattle.equivalence.proofs.Places.{last-absent, last-present}
 
-module _ (table first second : List ℕ) (m : ℕ) (compared : Compared table first second m) where
+-- ---- the first m bytes of a list
+
+each-taken : (P : ℕ → Type 0) (m : ℕ) (l : List ℕ) → ((i : ℕ) → i < m → P (get_or l i 0)) → Each P (take m l)
+each-taken P zero l h = tt
+each-taken P (suc m) [] h = tt
+each-taken P (suc m) (b ∷ l) h = (h 0 (omega arith), each-taken P m l (λ i lt. h (suc i) (omega arith)))
+
+none-taken : (f : ℕ → Bool) (m : ℕ) (l : List ℕ) → list_any f (take m l) ≡ false → (i : ℕ) → i < m → i < length l → f (get_or l i 0) ≡ false
+none-taken f zero l n i h k = absurd (omega arith)
+none-taken f (suc m) [] n i h k = absurd (omega arith)
+none-taken f (suc m) (b ∷ l) n zero h k = or-false-left (f b) (list_any f (take m l)) n
+none-taken f (suc m) (b ∷ l) n (suc i) h k = none-taken f m l (or-false-right (f b) (list_any f (take m l)) n) i (omega arith) (omega arith)
+
+module _ (table first second : List ℕ) (m : ℕ) (compared : Compared table first second m) (index : List (Option ℕ)) (indexed : Indexed second m index) where
+  fits : m ≤ length second
+  fits = omega (arith, compared.most, compared.second-long)
+
   -- a step's name fits a byte
   small : (i : ℕ) → i < m → get_or first i 0 < 256
   small i h =
       let actor : get_or first i 0 / 32 < 8 = omega (arith, (compared.stand i h).0, compared.accepted.actors-most) in
       omega arith
 
-  fits : m ≤ length second
-  fits = omega (arith, compared.most, compared.second-long)
+  -- what the index has of a byte says whether the second list has its name, and where
+  told : (b : ℕ) → b < 256 → (o : Option ℕ) → get_or index b None ≡ o
+      → (not (absent index b) ≡ mem (name_of b) (names_in m second))
+      × (absent index b ≡ false → place_of (get_or index b None) ≡ place (name_of b) (names_in m second))
+  told b h None e =
+      let none = last-absent second m fits b (sym (indexed.at b h) ∙ e) in
+      rw e (sym none, λ f. contrary refl f)
+  told b h (Some p) e =
+      let some = last-present second m fits b p compared.second-distinct (sym (indexed.at b h) ∙ e) in
+      rw e (sym some.0, λ f. some.1)
 
-  first_fits : m ≤ length first
-  first_fits = omega (arith, compared.most, compared.first-long)
+  all_found-in : (l : List ℕ) → Each (λ b. b < 256) l → not (list_any (absent index) l) ≡ within (map name_of l) (names_in m second)
+  all_found-in [] e = refl
+  all_found-in (b ∷ l) e =
+      not-or (absent index b) (list_any (absent index) l) ∙ ap₂ ◌&&◌ (told b e.0 (get_or index b None) refl).0 (all_found-in l e.1)
+    where
+      not-or : (a c : _) → not (a || c) ≡ (not a && not c)
+      not-or true c = refl
+      not-or false c = refl
 
-  module _ (index : List ℕ) (indexed : Indexed second m index) where
-    looked : (i : ℕ) → i < m → get_or index (get_or first i 0) 0 ≡ last_in second m (get_or first i 0)
-    looked i h = indexed.at (get_or first i 0) (small i h)
+  pub all_found : not (list_any (absent index) (take m first)) ≡ within (names_in m first) (names_in m second)
+  all_found = all_found-in (take m first) (each-taken (λ b. b < 256) m first small)
 
-    missing : (i : ℕ) → i < m → absent first index i ≡ true → mem (name_of (get_or first i 0)) (names_in m second) ≡ false
-    missing i h t =
-        last-absent second m compared.most fits (get_or first i 0) (sym (looked i h) ∙ eqb-true (get_or index (get_or first i 0) 0) 256 t)
-
-    there : (i : ℕ) → i < m → absent first index i ≡ false
-        → (mem (name_of (get_or first i 0)) (names_in m second) ≡ true)
-        × (last_in second m (get_or first i 0) ≡ place (name_of (get_or first i 0)) (names_in m second))
-    there i h f =
-        last-present second m compared.most fits (get_or first i 0) compared.second-distinct
-        (λ e. eqb-false (get_or index (get_or first i 0) 0) 256 f (looked i h ∙ e))
-
-    pub all_found : not (any_below (absent first index) m) ≡ within (names_in m first) (names_in m second)
-    all_found = go (which (any_below (absent first index) m))
-      where
-        lost : (i : ℕ) × (i < m) × (absent first index i ≡ true) → within (names_in m first) (names_in m second) ≡ true → ⊥
-        lost r w =
-            contrary
-            (within-mem (names_in m first) (names_in m second) w (name_of (get_or first r.0 0)) (named_in m first r.0 r.1 first_fits))
-            (missing r.0 r.1 r.2)
-
-        held : any_below (absent first index) m ≡ false → (x : Name) → (i : ℕ) × (i < m) × (name_of (get_or first i 0) ≡ x) → mem x (names_in m second) ≡ true
-        held f x r = rw r.2 at (there r.0 r.1 (below_none (absent first index) m f r.0 r.1)).0
-
-        go : (any_below (absent first index) m ≡ true) ⊎ (any_below (absent first index) m ≡ false)
-            → not (any_below (absent first index) m) ≡ within (names_in m first) (names_in m second)
-        go (inl t) = rw t (sym (is_false _ (lost (below-some (absent first index) m t))))
-        go (inr f) = rw f (sym (mem-within (names_in m first) (names_in m second) (λ x h. held f x (in-named m first x h))))
-
-    -- where all are found, each has its place in the second list
-    pub all_placed : (places : List ℕ) → any_below (absent first index) m ≡ false → ((i : ℕ) → i < m → get_or places i 0 ≡ get_or index (get_or first i 0) 0)
-        → (i : ℕ) → i < m
-        → (mem (name_of (get_or first i 0)) (names_in m second) ≡ true)
-        × (get_or places i 0 ≡ place (name_of (get_or first i 0)) (names_in m second))
-    all_placed places f same i h =
-        let r = there i h (below_none (absent first index) m f i h) in
-        (r.0, same i h ∙ looked i h ∙ r.1)
+  -- where all are found, each has its place in the second list
+  pub all_placed : list_any (absent index) (take m first) ≡ false → (i : ℕ) → i < m
+      → (absent index (get_or first i 0) ≡ false) × (mem (name_of (get_or first i 0)) (names_in m second) ≡ true)
+      × (place_in index first i ≡ place (name_of (get_or first i 0)) (names_in m second))
+  all_placed f i h =
+      let there = none-taken (absent index) m first f i h (omega (arith, compared.most, compared.first-long)) in
+      let t = told (get_or first i 0) (small i h) (get_or index (get_or first i 0) None) refl in
+      (there, sym t.0 ∙ ap not there, t.1 there)

@@ -18,11 +18,12 @@ use Rattle.model.specs.Schedule.{machine, end_state, first_numbers, check_schedu
 use Rattle.model.proofs.Checks.{checks-taken}
 use Rattle.model.proofs.Reached.{reached-end}
 use Rattle.state.specs.declared.Actor.{Actor}
+use Rattle.state.specs.declared.arrays.Site.{Site as Arrays}
 use Rattle.state.specs.State.{Positions}
 use Rattle.readiness.specs.Parts.{Answerable}
 use Rattle.execution.specs.Parts.{AtEnd}
 
-module _ {table schedule comms log ends queues journal names : List ℕ} {actors : List Actor} (E : AtEnd table schedule comms log ends queues journal names actors) where
+module _ {table schedule : List ℕ} {arrays : Arrays} {names : List ℕ} {actors : List Actor} (E : AtEnd table schedule arrays names actors) where
   pub all-taken : accepted (machine table) initial schedule ≡ true
   all-taken = checks-taken table first_numbers initial 0 schedule (then-right (read_of table) (check_schedule first_numbers table schedule) E.checked)
 
@@ -35,12 +36,9 @@ module _ {table schedule comms log ends queues journal names : List ℕ} {actors
           let few = E.promise.actions-most a (ltb-true a (actors_of table) h) in omega arith
       go (inr h) = let none = (reached-end table schedule all-taken).absent-still a (ltb-false a (actors_of table) h) in omega arith
 
-  pub answerable : Answerable table actors comms queues
+  pub answerable : Answerable table actors
   answerable =
       record {
         accepted = E.promise;
         actors-long = E.end.actors-long;
-        eight = E.end.eight;
-        comms-room = E.end.mail-room.comms-room;
-        queue-room = E.end.queue-room;
       }

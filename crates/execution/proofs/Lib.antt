@@ -1,3 +1,2 @@
--- An execution by its course, and what its end is good for.
-pub mod Courses
+-- What an execution's end is good for.
 pub mod Ends

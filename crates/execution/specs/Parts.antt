@@ -1,6 +1,7 @@
 -- What an execution leaves: the refusal of the table or of the schedule, or the end state in arrays.
 -- Assumes nothing: these are definitions.
-use Rattle.std.specs.Prelude.{ℕ, ◌≡◌, List}
+use Rattle.state.specs.declared.arrays.Site.{Site as Arrays}
+use Rattle.std.specs.Prelude.{ℕ, ◌≡◌, Result, MatchResult, List}
 use Rattle.table.specs.Outcome.{accepted, refused, number_of, position_of}
 use Rattle.table.specs.Promise.{WellFormed}
 use Rattle.model.specs.Calls.{ready_checks}
@@ -8,15 +9,15 @@ use Rattle.answers.specs.declared.Refusal.{Refusal}
 use Rattle.answers.specs.Answers.{refusal_of}
 use Rattle.state.specs.declared.Actor.{Actor}
 use Rattle.play.specs.Parts.{Ended}
-use Rattle.execution.specs.declared.Course.TheVariants.{End, Refused}
-use Rattle.execution.specs.declared.Execution.{Execution}
 
 -- the table and the schedule are accepted, and the arrays hold the end state
-pub record AtEnd (table schedule comms log ends queues journal names' : List ℕ) (actors : List Actor) : Type 0 where
+pub record AtEnd (table schedule : List ℕ) (arrays : Arrays) (names' : List ℕ) (actors : List Actor) : Type 0 where
   pub promise : WellFormed table
   pub checked : ready_checks table schedule ≡ accepted
-  pub end : Ended table schedule comms log ends queues journal names' actors
+  pub end : Ended table schedule arrays names' actors
 
-pub record Executed (table schedule comms log ends queues journal names' : List ℕ) (r : Execution) : Type 0 where
-  pub refusal : (x : Refusal) → r.course ≡ Refused x → ready_checks table schedule ≡ refused (number_of (refusal_of x)) (position_of (refusal_of x))
-  pub ended : r.course ≡ End → AtEnd table schedule comms log ends queues journal names' r.actors
+-- so it is, or the refusal is that of the table or of the schedule
+abbrev pub Executed : (table schedule : List ℕ) (arrays : Arrays) (names' : List ℕ) → Result (List Actor) Refusal → Type 0
+Executed table schedule arrays names' r =
+    MatchResult r (AtEnd table schedule arrays names')
+    (λ x. ready_checks table schedule ≡ refused (number_of (refusal_of x)) (position_of (refusal_of x)))

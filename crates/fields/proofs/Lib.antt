@@ -1,7 +1,3 @@
 -- From the tests in the code to the checks of the definitions.
-pub mod Tests
-pub mod Lists
-pub mod CommunicationKinds
-pub mod Forms
+pub mod InARow
 pub mod Blanks
-pub mod Plainly

@@ -1,10 +1,12 @@
 -- What the checks of one action promise one another.
 -- Assumes nothing.
-use Rattle.std.specs.Prelude.{ℕ, ◌+◌, ◌<◌, ◌≤◌, ◌≡◌, List, [], ◌∷◌, length, get_or, ltb, leb, eqb, ◌&&◌}
-use Rattle.table.specs.Outcome.{Outcome, demand, ◌⨾◌, each}
-use Rattle.table.specs.Format.{mailboxes_of, mutexes_of, kind_at, p_at, q_at, z_at, listed_at, value_at, place_of}
-use Rattle.table.specs.Kinds.{nothing}
-use Rattle.table.specs.Read.{rest_clear, blanks, allowed}
+use Rattle.std.specs.Prelude.{ℕ, ◌+◌, ◌<◌, ◌≤◌, ◌≡◌, List, [], ◌∷◌, length, get_or, slice_range}
+use Rattle.table.specs.Outcome.{accepted}
+use Rattle.table.specs.Format.{mailboxes_of, mutexes_of, kind_at, p_at, q_at, z_at, value_at}
+use Rattle.table.specs.Kinds.{actions}
+use Rattle.table.specs.Read.{list_fits}
+use Rattle.fields.specs.declared.Limits.{Limits}
+use Rattle.fields.specs.declared.Row.{Row}
 
 -- the most bytes that a table has: 8 actors with 32 actions each
 abbrev pub table_most : ℕ
@@ -14,45 +16,43 @@ table_most = 2084
 abbrev pub Room : List ℕ → ℕ → Type 0
 Room b at = (at + 8 ≤ length b) × (length b ≤ table_most)
 
--- p below a limit, q a cell, all else unused: Add, Lesser, Send, Receive
-abbrev pub two_fields_of : List ℕ → ℕ → ℕ → Outcome
-two_fields_of b at limit = demand (ltb (p_at b at) limit) 7 at ⨾ demand (ltb (q_at b at) 8) 7 at ⨾ rest_clear b at nothing
+-- by kind: what p lies under; what q does where the kind has no list, 0 for a list; and what b4 to b7 as one number are at most
+abbrev pub row : (p q value : ℕ) → Row
+row p q value = record { p = p; q = q; value = value }
 
--- p below a limit, all else unused: Lock, Unlock, Note
-abbrev pub lone_of : List ℕ → ℕ → ℕ → Outcome
-lone_of b at limit = demand (ltb (p_at b at) limit) 7 at ⨾ demand (eqb (q_at b at) 0) 9 at ⨾ rest_clear b at nothing
+abbrev pub rows_of : (mailboxes mutexes : ℕ) → List Row
+rows_of m x =
+    row 8 1 4294967295
+    ∷ row 8 8 0
+    ∷ row 8 8 0
+    ∷ row m 8 0
+    ∷ row m 8 0
+    ∷ row 8 0 0
+    ∷ row 8 0 0
+    ∷ row x 1 0
+    ∷ row x 1 0
+    ∷ row 8 0 0
+    ∷ row 8 0 0
+    ∷ row 8 1 0
+    ∷ []
 
--- the first n numbers of a list are below a limit; are lower Sends or Receives
-abbrev pub all_below : List ℕ → ℕ → ℕ → ℕ → Outcome
-all_below b at limit n = each (λ i. demand (ltb (listed_at b at i) limit) 7 at) n 0
+abbrev pub row_of : List ℕ → ℕ → Row
+row_of b kind = get_or (rows_of (mailboxes_of b) (mutexes_of b)) kind (row 0 0 0)
 
-abbrev pub all_communications : List ℕ → ℕ → ℕ → ℕ → Outcome
-all_communications b first k n =
-    let at = place_of first k in each (λ i. demand (allowed b first k (listed_at b at i)) 8 at) n 0
+-- what the checks of a table's actions go by
+pub record LimitsOf (b : List ℕ) (limits : Limits) : Type 0 where
+  pub mailboxes : limits.mailboxes ≡ mailboxes_of b
+  pub mutexes : limits.mutexes ≡ mutexes_of b
+  pub rows : limits.rows ≡ rows_of (mailboxes_of b) (mutexes_of b)
 
--- p a cell, a list of z numbers that are right, q unused: TestAny, WaitAny, MutexTest, MutexWait
-abbrev pub list_of : List ℕ → ℕ → (ℕ → Outcome) → Outcome
-list_of b at right =
-    demand (ltb (p_at b at) 8) 7 at
-    ⨾ demand (leb 1 (z_at b at) && leb (z_at b at) 4) 7 at
-    ⨾ right (z_at b at)
-    ⨾ demand (eqb (q_at b at) 0) 9 at
-    ⨾ blanks b at (z_at b at)
-
--- by kind: what p lies under
-abbrev pub limits_of : List ℕ → List ℕ
-limits_of b = 8 ∷ 8 ∷ 8 ∷ mailboxes_of b ∷ mailboxes_of b ∷ 8 ∷ 8 ∷ mutexes_of b ∷ mutexes_of b ∷ 8 ∷ 8 ∷ 8 ∷ []
-
--- by kind: what q lies under where the kind has no list, and what b4 to b7 as one number lie under; 0 for a list
-abbrev pub q_under : List ℕ
-q_under = 1 ∷ 8 ∷ 8 ∷ 8 ∷ 8 ∷ 0 ∷ 0 ∷ 1 ∷ 1 ∷ 0 ∷ 0 ∷ 1 ∷ []
-
-abbrev pub value_under : List ℕ
-value_under = 4294967296 ∷ 1 ∷ 1 ∷ 1 ∷ 1 ∷ 0 ∷ 0 ∷ 1 ∷ 1 ∷ 0 ∷ 0 ∷ 1 ∷ []
+-- the numbers that an action lists, from one to four
+pub record Listed (b : List ℕ) (at : ℕ) (list : List ℕ) : Type 0 where
+  pub sized : list_fits b at actions ≡ accepted
+  pub bytes : list ≡ slice_range b (at + 4) (at + 4 + z_at b at)
 
 -- an action without a list that has nothing wrong
-pub record Plain (b : List ℕ) (at : ℕ) (limits : List ℕ) : Type 0 where
-  pub p-under : p_at b at < get_or limits (kind_at b at) 0
-  pub q-under : q_at b at < get_or q_under (kind_at b at) 0
+pub record Plain (b : List ℕ) (at : ℕ) : Type 0 where
+  pub p-under : p_at b at < (row_of b (kind_at b at)).p
+  pub q-under : q_at b at < (row_of b (kind_at b at)).q
   pub z-none : z_at b at ≡ 0
-  pub value-under : value_at b at < get_or value_under (kind_at b at) 0
+  pub value-most : value_at b at ≤ (row_of b (kind_at b at)).value

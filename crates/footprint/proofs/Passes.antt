@@ -14,16 +14,13 @@ use Rattle.model.specs.Pair.{post_at}
 use Rattle.names.specs.Steps.{Stands}
 use Rattle.footprint.specs.Resources.{posted_to, contested_by, looked_at, SmallPost}
 use Rattle.footprint.specs.Latest.{latest_of, raised, Passed}
-use Rattle.footprint.proofs.Ranges.{LookStands, small-post, look-stands}
+use Rattle.footprint.proofs.Ranges.{small-post}
 
 module _ {table : List ℕ} {a k : ℕ} {y : Action} where
   -- ---- what is known of the action
 
   pub small-post-as : WellFormed table → Stands table (name a k) → action_of table a k ≡ y → SmallPost (posts y)
   small-post-as ok s e = subst (λ (t : Action). SmallPost (posts t)) e (small-post table ok (name a k) s)
-
-  pub look-stands-as : WellFormed table → Stands table (name a k) → action_of table a k ≡ y → LookStands table a (looks y)
-  look-stands-as ok s e = subst (λ (t : Action). LookStands table a (looks t)) e (look-stands table ok (name a k) s)
 
   -- ---- the step is passed
 

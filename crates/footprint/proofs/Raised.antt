@@ -2,7 +2,7 @@
 -- Assumes nothing.
 use Prim.Native.Nat.{ℕ, ◌<◌, max}
 use native.Mathlib.Omega.{arith}
-use mathlib.Core.Path.{◌≡◌, refl, sym, ◌∙◌, ap}
+use mathlib.Core.Path.{◌≡◌, sym, ◌∙◌, ap}
 use mathlib.Core.Logic.{◌⊎◌, inl, inr}
 use mathlib.Core.Bool.{Bool, true, false, ◌&&◌, ◌||◌, or-false}
 use mathlib.Core.List.{List, [], ◌∷◌}
@@ -10,13 +10,11 @@ use borrow.Author.Tests.{ltb-true, ltb-false, lt-ltb, le-ltb, eqb-true, eqb-fals
 use lib.Dec.{eqb, ltb}
 use lib.ListN.{length, get_or, set, length-set}
 use lib.Seq.{get_or-set_same, get_or-set_other}
-use Rattle.trace.specs.Machine.{Name}
 use Rattle.trace.specs.Order.{has}
 use Rattle.trace.proofs.Bools.{which, or-regroup, and-shared}
 use Rattle.model.specs.Pair.{any_of}
 use Rattle.names.specs.Steps.{Each}
-use Rattle.footprint.specs.Resources.{posted, looked}
-use Rattle.footprint.specs.Latest.{latest_of, raised, Rooms, Passed}
+use Rattle.footprint.specs.Latest.{latest_of, raised}
 
 -- a place is before the later of two where it is before one of them
 pub before-later : (p a b : ℕ) → ltb p (max a b) ≡ (ltb p a || ltb p b)
@@ -55,16 +53,3 @@ raised-test q (r ∷ l) latest p s fit =
     ∙ ap (λ (b : Bool). b || (has l s && ltb p q)) (one-raised latest q p r s fit.0)
     ∙ sym (or-regroup (ltb p (get_or latest s 0)) (eqb s r && ltb p q) (has l s && ltb p q))
     ∙ ap (λ (b : Bool). ltb p (get_or latest s 0) || b) (and-shared (eqb s r) (has l s) (ltb p q))
-
-pub raised_long : (q : ℕ) (l latest : List ℕ) → length (raised q l latest) ≡ length latest
-raised_long q [] latest = refl
-raised_long q (r ∷ l) latest = raised_long q l (set latest r (max (get_or latest r 0) q)) ∙ length-set latest r (max (get_or latest r 0) q)
-
--- there is as much room after a step is passed
-pub passed-rooms : (table : List ℕ) (x : Name) {place r : ℕ} {posts looks posts' looks' : List ℕ} → Rooms posts looks
-    → Passed table x place posts looks posts' looks' r → Rooms posts' looks'
-passed-rooms table x {place} {r} {posts} {looks} room passed =
-    record {
-      posts-long = ap length passed.posts-raised ∙ raised_long place (posted table x) posts ∙ room.posts-long;
-      looks-long = ap length passed.looks-raised ∙ raised_long place (looked table x) looks ∙ room.looks-long;
-    }

@@ -1,7 +1,9 @@
 -- By resource, the latest place among some steps that touch it: `posts` among those that post to it, `looks` among those that look at it. 0 where there
 -- is none.
 -- Assumes nothing: these are definitions.
-use Rattle.std.specs.Prelude.{ℕ, max, ◌≡◌, ◌≢◌, cond, List, [], ◌∷◌, leb, length, get_or, set}
+use Rattle.std.specs.Prelude.{ℕ, ◌<◌, max, ◌≡◌, ◌≢◌, List, [], ◌∷◌, get_or, set, Option, Some, None}
+use Rattle.table.specs.declared.Numbers.{Numbers}
+use Rattle.table.specs.Promise.{number}
 use Rattle.trace.specs.Machine.{Name}
 use Rattle.footprint.specs.Resources.{unlock_group, posted, contested, looked}
 
@@ -15,11 +17,6 @@ abbrev pub raised : ℕ → List ℕ → List ℕ → List ℕ
 raised place [] latest = latest
 raised place (r ∷ l) latest = raised place l (set latest r (max (get_or latest r 0) place))
 
--- room for all resources
-pub record Rooms (posts looks : List ℕ) : Type 0 where
-  pub posts-long : length posts ≡ 96
-  pub looks-long : length looks ≡ 96
-
 -- a post to a resource: the latest place of the looks at it and, unless it is an Unlock, of the posts to it; and its own place among the posts
 pub record Posted (kind r place : ℕ) (posts looks posts' : List ℕ) (met : ℕ) : Type 0 where
   pub contested-met : kind ≢ unlock_group → met ≡ max (get_or posts r 0) (get_or looks r 0)
@@ -31,9 +28,13 @@ pub record Looked (l : List ℕ) (place : ℕ) (posts looks looks' : List ℕ) (
   pub met : r ≡ latest_of posts l
   pub looks-raised : looks' ≡ raised place l looks
 
--- the resources of number n of a list of `count`; none where the list has fewer
-abbrev pub up_to : (count n : ℕ) → List ℕ → List ℕ
-up_to count n l = cond (leb n count) l []
+-- the resource of a listed number, if it has one; and that this is what a closure gives for each of them
+abbrev pub one_of : Option ℕ → List ℕ
+one_of None = []
+one_of (Some r) = r ∷ []
+
+abbrev pub Gives : (given : ℕ → Option ℕ → Type 0) → (ℕ → List ℕ) → Numbers → Type 0
+Gives given f list = (i : ℕ) (r : Option ℕ) → i < list.count → given (number list i) r → one_of r ≡ f (number list i)
 
 module _ (table : List ℕ) (x : Name) where
   -- the latest place of the steps that a step must not change places with

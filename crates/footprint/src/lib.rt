@@ -2,213 +2,151 @@
 // among those that post to it, and among those that look at it.
 #![tactic(auto)]
 
-ghost use Rattle.std.specs.Prelude.{◌≡◌, [], ◌∷◌, ◌<◌, ◌≤◌, max, get_or, set};
-ghost use Rattle.table.specs.Promise.{WellFormed};
+ghost use Rattle.std.specs.Prelude.{◌≡◌, ℕ, Some, List, [], ◌∷◌, ◌<◌, length, replicate};
+ghost use Rattle.table.specs.Promise.{WellFormed, number as number_at};
 ghost use Rattle.model.specs.Site.{name};
-ghost use Rattle.model.specs.Views.{listed as listed_in, posts as posts_of};
+ghost use Rattle.model.specs.Views.{listed, posts as posts_of};
 ghost use Rattle.model.specs.Pair.{post_at};
-ghost use Rattle.names.specs.Steps.{Stands, Each};
-ghost use Rattle.footprint.specs.Resources.{resource, unlock_group, numbered, awaited_by, all_of, SmallPost, Unnumbered};
-ghost use Rattle.footprint.specs.Latest.{Rooms, Posted, Passed, Looked, up_to};
+ghost use Rattle.names.specs.Steps.{Stands};
+ghost use Rattle.footprint.specs.Resources.{resource as resource_of, numbered, all_of, awaited_by, SmallPost, Unnumbered};
+ghost use Rattle.footprint.specs.Latest.{Posted, Passed, Looked, one_of, Gives};
 
-use table::{Action, Numbers};
+use table::{Action, Kind, Numbers, within};
 
-// The resources: eight of each group, for a mailbox or a mutex; of the journal's one alone is used. A group begins at eight times its kind.
-const SENDS: usize = 24;
+// The kinds that post, each with a group of eight resources, one for a mailbox or a mutex; of Notes' one alone is used, the journal. They are numbers
+// and no Kinds, since a resource's number is made of its kind's.
+const SEND: usize = Kind::Send as usize;
 
-const RECEIVES: usize = 32;
+const RECEIVE: usize = Kind::Receive as usize;
 
-const UNLOCKS: usize = 64;
+const LOCK: usize = Kind::Lock as usize;
 
-const JOURNAL: usize = 88;
+const UNLOCK: usize = Kind::Unlock as usize;
 
-// The latest place of the steps so far that this step must not change places with, 0 where there is none. The step is then one of those so far, with its
-// own place. A Send, Receive, Lock or Unlock is told by the number of its kind: one test for the four.
-pub fn pass(
-    table: &[u8],
-    a: usize,
-    k: usize,
-    place: u16,
-    posts: &mut [u16; 96],
-    looks: &mut [u16; 96],
-) -> u16
-    requires { WellFormed table.now × Stands table.now (name a k) × Rooms posts.old looks.old }
-    ensures { Passed table.now (name a k) place posts.old looks.old posts.new looks.new result }
-{
-    let kind = table::within::kind(table, a, k);
-    if is_numbered(kind) {
-        let number = table::within::target(table, a, k);
-        return post(kind, number, place, posts, looks);
+const NOTE: usize = Kind::Note as usize;
+
+// By resource, the latest place among the steps so far that post to it, and among those that look at it; 0 where there is none.
+#[derive(Drop)]
+pub struct Latest {
+    pub posts: [u8; 96],
+    pub looks: [u8; 96],
+    pub ghost posts_long: { length posts ≡ 96 },
+    pub ghost looks_long: { length looks ≡ 96 },
+}
+
+impl Latest {
+    // Of no steps.
+    pub fn new() -> Self
+        ensures { (result.posts ≡ replicate 96 0) × (result.looks ≡ replicate 96 0) }
+    {
+        Latest {
+            posts: [0; 96],
+            looks: [0; 96],
+        }
     }
-    pass_other(table, a, k, place, posts, looks)
+
+    // The latest place of the steps so far that this step must not change places with, 0 where there is none. The step is then one of those so far,
+    // with its own place. A Send, Receive, Lock or Unlock is told by the number of its kind: one test for the four.
+    pub fn pass(&mut self, table: &[u8], a: usize, k: usize, place: u8) -> u8
+        requires { WellFormed table.now × Stands table.now (name a k) }
+        ensures { Passed table.now (name a k) place self.old.posts self.old.looks self.new.posts self.new.looks result }
+    {
+        let kind = within::kind(table, a, k);
+        if is_numbered(kind) {
+            return self.post(kind, within::target(table, a, k), place);
+        }
+        self.pass_other(table, a, k, place)
+    }
+
+    // The same of any other step: it looks, or it is a Note, or it touches nothing.
+    fn pass_other(&mut self, table: &[u8], a: usize, k: usize, place: u8) -> u8
+        requires { WellFormed table.now × Stands table.now (name a k) × Unnumbered (post_at table.now a k) }
+        ensures { Passed table.now (name a k) place self.old.posts self.old.looks self.new.posts self.new.looks result }
+    {
+        match within::action(table, a, k) {
+            Action::TestAny { list, .. } | Action::WaitAny { list, .. } => {
+                self.look_at_each(list, place, |k| awaited(within::action(table, a, k)))
+            }
+            Action::MutexTest { list, .. } | Action::MutexWait { list, .. } => {
+                self.look_at_each(list, place, |m| Some(resource(UNLOCK, m)))
+            }
+            Action::Note { .. } => self.post(NOTE, 0, place),
+            _ => 0,
+        }
+    }
+
+    // A post to a mailbox's side, a mutex or the journal. It is dependent on the looks at it, and on the posts to it: Unlocks alone are independent
+    // of one another.
+    fn post(&mut self, kind: usize, number: usize, place: u8) -> u8
+        requires { (kind < 12) × (number < 8) }
+        ensures posts { Posted kind (resource_of kind number) place self.old.posts self.old.looks self.new.posts result }
+        ensures looks { self.new.looks ≡ self.old.looks }
+    {
+        let r = resource(kind, number);
+        let before = self.posts[r];
+        self.posts[r] = before.max(place);
+        if kind == UNLOCK {
+            return self.looks[r];
+        }
+        before.max(self.looks[r])
+    }
+
+    // A look at the resource of each listed number that has one.
+    fn look_at_each<F: Fn(usize) -> Option<usize>>(
+        &mut self,
+        list: Numbers,
+        place: u8,
+        resource: F,
+    ) -> u8
+        requires may { (i : ℕ) → i < list.count → F.pre resource (number_at list i) }
+        requires fits { (i r : ℕ) → i < list.count → F.post resource (number_at list i) (Some r) → r < 96 }
+        ensures posts { self.new.posts ≡ self.old.posts }
+        ensures looks { (f : ℕ → List ℕ) → Gives (F.post resource) f list
+            → Looked (all_of f (listed list)) place self.old.posts self.old.looks self.new.looks result }
+    {
+        let mut met = 0;
+        for k in list.all.iter().take(list.count) {
+            if let Some(r) = resource(*k) {
+                met = met.max(self.look_at(r, place));
+            }
+        }
+        met
+    }
+
+    // A look at a resource: it is dependent on the posts to it.
+    fn look_at(&mut self, r: usize, place: u8) -> u8
+        requires { r < 96 }
+        ensures posts { self.new.posts ≡ self.old.posts }
+        ensures looks { Looked (r ∷ []) place self.old.posts self.old.looks self.new.looks result }
+    {
+        self.looks[r] = self.looks[r].max(place);
+        self.posts[r]
+    }
 }
 
 // Whether a kind is Send, Receive, Lock or Unlock.
 fn is_numbered(kind: usize) -> bool
     ensures { result ≡ numbered kind }
 {
-    match kind {
-        3 => true,
-        4 => true,
-        7 => true,
-        8 => true,
-        _ => false,
-    }
+    matches!(kind, SEND | RECEIVE | LOCK | UNLOCK)
 }
 
-// A post to a mailbox's side or a mutex. Unlocks alone are independent of one another.
-fn post(kind: usize, number: usize, place: u16, posts: &mut [u16; 96], looks: &[u16; 96]) -> u16
-    requires { (kind < 12) × (number < 8) × Rooms posts.old looks.now }
-    ensures { Posted kind (resource kind number) place posts.old looks.now posts.new result }
+// A group begins at eight times its kind.
+fn resource(kind: usize, number: usize) -> usize
+    requires { (kind < 12) × (number < 8) }
+    ensures { (result ≡ resource_of kind number) × (result < 96) }
 {
-    let r = 8 * kind + number;
-    if kind == 8 {
-        return release(r, place, posts, looks);
-    }
-    contest(r, place, posts, looks)
+    8 * kind + number
 }
 
-// The same of any other step: it looks, or it is a Note, or it touches nothing.
-fn pass_other(
-    table: &[u8],
-    a: usize,
-    k: usize,
-    place: u16,
-    posts: &mut [u16; 96],
-    looks: &mut [u16; 96],
-) -> u16
-    requires { WellFormed table.now × Stands table.now (name a k) × Rooms posts.old looks.old × Unnumbered (post_at table.now a k) }
-    ensures { Passed table.now (name a k) place posts.old looks.old posts.new looks.new result }
-{
-    let x = table::within::action(table, a, k);
-    match x {
-        Action::TestAny { result: _, list } => communications(table, a, list, place, posts, looks),
-        Action::WaitAny { result: _, list } => communications(table, a, list, place, posts, looks),
-        Action::MutexTest { result: _, list } => mutexes(list, place, posts, looks),
-        Action::MutexWait { result: _, list } => mutexes(list, place, posts, looks),
-        Action::Note { cell: _ } => contest(JOURNAL, place, posts, looks),
-        _ => 0,
-    }
-}
-
-// A post to a resource on which posts are dependent on one another, and on looks at it.
-fn contest(r: usize, place: u16, posts: &mut [u16; 96], looks: &[u16; 96]) -> u16
-    requires { (r < 96) × Rooms posts.old looks.now }
-    ensures { (result ≡ max (get_or posts.old r 0) (get_or looks.now r 0))
-        × (posts.new ≡ set posts.old r (max (get_or posts.old r 0) place)) }
-{
-    let before = posts[r];
-    posts[r] = later(before, place);
-    later(before, looks[r])
-}
-
-// A post to a resource on which posts are independent of one another, and dependent on looks at it.
-fn release(r: usize, place: u16, posts: &mut [u16; 96], looks: &[u16; 96]) -> u16
-    requires { (r < 96) × Rooms posts.old looks.now }
-    ensures { (result ≡ get_or looks.now r 0)
-        × (posts.new ≡ set posts.old r (max (get_or posts.old r 0) place)) }
-{
-    let before = posts[r];
-    posts[r] = later(before, place);
-    looks[r]
-}
-
-// A look at a resource: it is dependent on the posts to it.
-fn look_at(r: usize, place: u16, posts: &[u16; 96], looks: &mut [u16; 96]) -> u16
-    requires { (r < 96) × Rooms posts.now looks.old }
-    ensures { (result ≡ get_or posts.now r 0)
-        × (looks.new ≡ set looks.old r (max (get_or looks.old r 0) place)) }
-{
-    let before = looks[r];
-    looks[r] = later(before, place);
-    posts[r]
-}
-
-// A look at a list of communications of an actor.
-fn communications(
-    table: &[u8],
-    a: usize,
-    list: Numbers,
-    place: u16,
-    posts: &[u16; 96],
-    looks: &mut [u16; 96],
-) -> u16
-    requires { WellFormed table.now × Each (λ k. Stands table.now (name a k)) (listed_in list) × Rooms posts.now looks.old }
-    ensures { Looked (all_of (λ k. awaited_by (post_at table.now a k)) (listed_in list)) place posts.now looks.old looks.new result }
-{
-    let one = communication(table, a, list.count, 1, list.n0, place, posts, looks);
-    let two = communication(table, a, list.count, 2, list.n1, place, posts, looks);
-    let three = communication(table, a, list.count, 3, list.n2, place, posts, looks);
-    let four = communication(table, a, list.count, 4, list.n3, place, posts, looks);
-    later(later(one, two), later(three, four))
-}
-
-// A look at a list of mutexes.
-fn mutexes(list: Numbers, place: u16, posts: &[u16; 96], looks: &mut [u16; 96]) -> u16
-    requires { Each (λ m. m < 8) (listed_in list) × Rooms posts.now looks.old }
-    ensures { Looked (all_of (λ m. resource unlock_group m ∷ []) (listed_in list)) place posts.now looks.old looks.new result }
-{
-    let one = mutex(list.count, 1, list.n0, place, posts, looks);
-    let two = mutex(list.count, 2, list.n1, place, posts, looks);
-    let three = mutex(list.count, 3, list.n2, place, posts, looks);
-    let four = mutex(list.count, 4, list.n3, place, posts, looks);
-    later(later(one, two), later(three, four))
-}
-
-// Number n of a list of `count`: communication k, if the list has so many.
-fn communication(
-    table: &[u8],
-    a: usize,
-    count: usize,
-    n: usize,
-    k: usize,
-    place: u16,
-    posts: &[u16; 96],
-    looks: &mut [u16; 96],
-) -> u16
-    requires { WellFormed table.now × (n ≤ count → Stands table.now (name a k)) × Rooms posts.now looks.old }
-    ensures { Looked (up_to count n (awaited_by (post_at table.now a k))) place posts.now looks.old looks.new result }
-{
-    if count < n {
-        return 0;
-    }
-    let x = table::within::action(table, a, k);
-    listed(x, place, posts, looks)
-}
-
-// The same of mutex m, which is looked at for its Unlocks.
-fn mutex(
-    count: usize,
-    n: usize,
-    m: usize,
-    place: u16,
-    posts: &[u16; 96],
-    looks: &mut [u16; 96],
-) -> u16
-    requires { (n ≤ count → m < 8) × Rooms posts.now looks.old }
-    ensures { Looked (up_to count n (resource unlock_group m ∷ [])) place posts.now looks.old looks.new result }
-{
-    if count < n {
-        return 0;
-    }
-    look_at(UNLOCKS + m, place, posts, looks)
-}
-
-// A look at an action: a Send awaits a Receive on its mailbox, and a Receive a Send.
-fn listed(x: Action, place: u16, posts: &[u16; 96], looks: &mut [u16; 96]) -> u16
-    requires { SmallPost (posts_of x) × Rooms posts.now looks.old }
-    ensures { Looked (awaited_by (posts_of x)) place posts.now looks.old looks.new result }
+// What a listed communication awaits: a Send a Receive on its mailbox, and a Receive a Send.
+fn awaited(x: Action) -> Option<usize>
+    requires { SmallPost (posts_of x) }
+    ensures { one_of result ≡ awaited_by (posts_of x) }
 {
     match x {
-        Action::Send { mailbox, cell: _ } => look_at(RECEIVES + mailbox, place, posts, looks),
-        Action::Receive { mailbox, cell: _ } => look_at(SENDS + mailbox, place, posts, looks),
-        _ => 0,
+        Action::Send { mailbox, .. } => Some(resource(RECEIVE, mailbox)),
+        Action::Receive { mailbox, .. } => Some(resource(SEND, mailbox)),
+        _ => None,
     }
-}
-
-// The later of two places.
-fn later(x: u16, y: u16) -> u16
-    ensures { result ≡ max x y }
-{
-    if x < y { y } else { x }
 }

@@ -1,47 +1,38 @@
 // The site's journal: a Note adds its entry at the end, and the report's last section is written from it.
 #![tactic(auto)]
 
-ghost use Rattle.std.specs.Prelude.{◌≡◌, [], ◌∷◌, ◌++◌, ◌+◌, ◌<◌, ◌≤◌, length};
-ghost use Rattle.model.specs.Report.{journal_bytes};
+ghost use Rattle.std.specs.Prelude.{◌≡◌, [], ◌∷◌, ◌++◌, ◌<◌, ◌≤◌, length};
+ghost use Rattle.model.specs.Report.{parts, journal_bytes};
 ghost use Rattle.names.specs.InByte.{name_of};
-ghost use Rattle.state.specs.State.{number_noted, journal_of, JournalRoom};
+ghost use Rattle.state.specs.State.{journal_of};
 ghost use Rattle.writing.specs.Written.{Wrote};
-ghost use Rattle.journal.specs.Parts.{six_bytes, entries_bytes};
+ghost use Rattle.journal.specs.Parts.{six_bytes, six_at};
+
+use state::Journal;
 
 // A Note: its step's name in one byte, and the value.
-pub fn add(journal: &mut [usize; 257], name: usize, value: u32)
-    requires { JournalRoom journal.old × (number_noted journal.old < 256) × (name < 256) }
-    ensures { (journal_of journal.new ≡ journal_of journal.old ++ (record { step = name_of name; value = value } ∷ []))
-        × JournalRoom journal.new }
+pub fn add(journal: &mut Journal, name: usize, value: u32)
+    requires { (journal.old.count < 256) × (name < 256) }
+    ensures { journal_of journal.new ≡ journal_of journal.old ++ (record { step = name_of name; value = value } ∷ []) }
 {
-    let n = journal[0];
-    journal[1 + n] = name + 256 * value as usize;
-    journal[0] = n + 1;
+    journal.entries[journal.count] = name + 256 * value as usize;
+    journal.count += 1;
 }
 
 // The number of entries, and the entries.
-pub fn part(journal: &[usize; 257], buf: &mut [u8]) -> usize
-    requires { JournalRoom journal.now × (length (journal_bytes (journal_of journal.now)) ≤ length buf.old) }
+pub fn part(journal: &Journal, buf: &mut [u8]) -> usize
+    requires { length (journal_bytes (journal_of journal.now)) ≤ length buf.old }
     ensures { Wrote buf.old (journal_bytes (journal_of journal.now)) buf.new result }
 {
-    let count = journal[0];
-    let at = writing::two((count % 256) as u8, (count / 256 % 256) as u8, buf);
-    at + entries(journal, count, &mut buf[at..])
+    let at = writing::short(journal.count as u16, buf);
+    at + entries(&journal.entries[..journal.count], &mut buf[at..])
 }
 
-// So many entries.
-fn entries(journal: &[usize; 257], count: usize, buf: &mut [u8]) -> usize
-    requires { (length journal.now ≡ 257) × (count ≤ 256) × (length (entries_bytes journal.now count) ≤ length buf.old) }
-    ensures { Wrote buf.old (entries_bytes journal.now count) buf.new result }
+fn entries(entries: &[usize], buf: &mut [u8]) -> usize
+    requires { length (parts (six_at entries.now) (length entries.now) 0) ≤ length buf.old }
+    ensures { Wrote buf.old (parts (six_at entries.now) (length entries.now) 0) buf.new result }
 {
-    let mut at = 0;
-    let mut i = 0;
-    while i < count {
-        let e = journal[1 + i];
-        at += entry(e, &mut buf[at..]);
-        i += 1;
-    }
-    at
+    writing::each(entries.len(), |i, buf| entry(entries[i], buf), buf)
 }
 
 // An entry: the name, two bytes, and the value, four.
@@ -49,14 +40,6 @@ fn entry(e: usize, buf: &mut [u8]) -> usize
     requires { 6 ≤ length buf.old }
     ensures { Wrote buf.old (six_bytes e) buf.new result }
 {
-    let name = e % 256;
-    let value = e / 256;
-    let at = writing::two((name / 32) as u8, (name % 32) as u8, buf);
-    at + writing::four(
-        (value % 256) as u8,
-        (value / 256 % 256) as u8,
-        (value / 65536 % 256) as u8,
-        (value / 16777216 % 256) as u8,
-        &mut buf[at..],
-    )
+    let at = writing::put(&writing::name((e % 256) as u8), buf);
+    at + writing::number((e / 256 % 4294967296) as u32, &mut buf[at..])
 }

@@ -1,41 +1,40 @@
-// Who leads a schedule, the lent entries or a policy: what is due, and what a policy may take as known of the last step.
+// Who leads a schedule, the lent entries or a policy: whose turn it is, and what a policy may take as known of the last step.
 #![tactic(auto)]
 
 ghost use Rattle.std.specs.Prelude.{◌≡◌, true, ◌-◌, ◌<◌, ◌≤◌};
-ghost use Rattle.std.specs.Int.Count.{ones};
 ghost use Rattle.table.specs.Format.{actors_of, count_of};
 ghost use Rattle.table.specs.Decode.{action_of};
 ghost use Rattle.table.specs.Promise.{WellFormed};
 ghost use Rattle.model.specs.Views.{posts};
 ghost use Rattle.lead.specs.Parts.{DueRight, Unheard};
 
-use policy::{Policy, Turn};
+use policy::Policy;
 use state::Actor;
-use table::{Action, bytes};
+use table::Action;
 
-// What is due: the schedule's end, or a turn.
+// Who says whose turn it is: the entries of a lent schedule, or a policy, which makes one.
 #[derive(Clone, Copy)]
-pub enum Due {
-    End,
-    Turn(Turn),
+pub enum Lead<'a> {
+    Lent(&'a [u8]),
+    Made(Policy),
 }
 
-// Whose turn it is by the lent schedule, or by the policy where the actors of a mask are ready.
-pub fn whose_turn(schedule: &[u8], i: usize, made: bool, policy: Policy, mask: u32) -> Due
-    requires { made ≡ true → 0 < mask → 0 < ones mask }
-    ensures { DueRight schedule.now i made policy mask result }
-{
-    if made {
-        if mask == 0 {
-            return Due::End;
+impl<'a> Lead<'a> {
+    // The actor whose turn it is after i turns, where those of a mask are ready; none at the schedule's end. A lent schedule does not look at the mask.
+    #[tactic(auto, using(std::proofs::lemmas::Nat::zero_from_ones))]
+    pub fn turn(&mut self, i: usize, mask: u32) -> Option<usize>
+        ensures { DueRight self.old i mask result self.new }
+    {
+        match self {
+            Lead::Lent(schedule) => schedule.get(i).map(|actor| usize::from(*actor)),
+            Lead::Made(policy) => {
+                if mask == 0 {
+                    return None;
+                }
+                Some(policy.turn(mask))
+            }
         }
-        return Due::Turn(policy.turn(mask));
     }
-    if schedule.len() <= i {
-        return Due::End;
-    }
-    let actor = bytes::wide(schedule[i]);
-    Due::Turn(Turn { actor, policy })
 }
 
 // Whether an actor has taken a step, and the last one posted nothing that another may wait for.
@@ -44,21 +43,11 @@ pub fn was_quiet(table: &[u8], a: usize, r: Actor) -> bool
     ensures { result ≡ true → (0 < r.position) × Unheard (posts (action_of table.now a (r.position - 1))) }
 {
     let k = r.position;
-    if k < 1 {
+    if k == 0 {
         return false;
     }
-    let x = table::within::action(table, a, k - 1);
-    match x {
-        Action::Send {
-            mailbox: _,
-            cell: _,
-        } => false,
-        Action::Receive {
-            mailbox: _,
-            cell: _,
-        } => false,
-        Action::Lock { mutex: _ } => false,
-        Action::Unlock { mutex: _ } => false,
-        _ => true,
-    }
+    !matches!(
+        table::within::action(table, a, k - 1),
+        Action::Send { .. } | Action::Receive { .. } | Action::Lock { .. } | Action::Unlock { .. }
+    )
 }

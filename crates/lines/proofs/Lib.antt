@@ -1,3 +1,2 @@
 -- The lines' texts and lengths.
 pub mod Wordings
-pub mod StepLines

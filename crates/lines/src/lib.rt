@@ -1,13 +1,13 @@
 // The lines of a listing. Each writer puts its lines at the front of the part that it is lent, and answers with their length.
 #![tactic(auto)]
 
-ghost use Rattle.std.specs.Prelude.{◌++◌, ◌*◌, ◌≤◌, ◌/◌, ◌%◌, length};
+ghost use Rattle.std.specs.Prelude.{◌≡◌, ◌++◌, ◌≤◌, length};
+ghost use Rattle.model.specs.Report.{parts};
 ghost use Rattle.model.specs.Text.{line};
-ghost use Rattle.model.specs.Listing.{end_text, refused_text, step_text};
-ghost use Rattle.names.specs.InByte.{name_of};
+ghost use Rattle.model.specs.Listing.{end_text, refused_text};
 ghost use Rattle.answers.specs.Answers.{ending_as};
 ghost use Rattle.writing.specs.Written.{Wrote};
-ghost use Rattle.lines.specs.FirstSteps.{first_steps};
+ghost use Rattle.lines.specs.FirstSteps.{first_steps, step_line, line_at};
 
 use answers::Ending;
 
@@ -28,41 +28,34 @@ pub fn run(names: &[u8; 256], count: usize, ending: Ending, buf: &mut [u8]) -> u
     ensures upper_bound { result ≤ 1293 }
 {
     let at = steps(names, count, buf);
-    at + last(ending, &mut buf[at..])
+    at + writing::put(last(ending), &mut buf[at..])
 }
 
+// The lines of so many steps.
 fn steps(names: &[u8; 256], count: usize, buf: &mut [u8]) -> usize
-    requires { (count ≤ length names.now) × (count ≤ 256) × (5 * count ≤ length buf.old) }
-    ensures wrote { Wrote buf.old (first_steps names.now count) buf.new result }
-    ensures upper_bound { result ≤ 5 * count }
+    requires { (count ≤ length names.now) × (length (parts (line_at names.now) count 0) ≤ length buf.old) }
+    ensures { Wrote buf.old (parts (line_at names.now) count 0) buf.new result }
 {
-    let mut at = 0;
-    let mut i = 0;
-    while i < count {
-        let name = names[i];
-        at += step(name, &mut buf[at..]);
-        i += 1;
-    }
-    at
+    writing::each(count, |i, buf| step(names[i], buf), buf)
 }
 
+// A step's line.
 fn step(name: u8, buf: &mut [u8]) -> usize
-    requires { 5 ≤ length buf.old }
-    ensures wrote { Wrote buf.old (line (step_text (name_of name))) buf.new result }
-    ensures upper_bound { result ≤ 5 }
+    requires { length (step_line name) ≤ length buf.old }
+    ensures { Wrote buf.old (step_line name) buf.new result }
 {
-    let at = text::decimal(text::wide(name / 32), buf);
-    at + text::ended(b" ", text::wide(name % 32), &mut buf[at..])
+    let [actor, action] = writing::name(name);
+    let at = text::decimal(u32::from(actor), buf);
+    at + text::ended(b" ", u32::from(action), &mut buf[at..])
 }
 
-fn last(ending: Ending, buf: &mut [u8]) -> usize
-    requires { 13 ≤ length buf.old }
-    ensures wrote { Wrote buf.old (line (end_text (ending_as ending))) buf.new result }
-    ensures upper_bound { result ≤ 13 }
+// The ending's line.
+fn last(ending: Ending) -> &'static [u8]
+    ensures { result.now ≡ line (end_text (ending_as ending)) }
 {
     match ending {
-        Ending::Finished => text::put(b"end finished\n", buf),
-        Ending::Stuck => text::put(b"end stuck\n", buf),
-        Ending::Going => text::put(b"end going\n", buf),
+        Ending::Finished => b"end finished\n",
+        Ending::Stuck => b"end stuck\n",
+        Ending::Going => b"end going\n",
     }
 }

@@ -21,7 +21,7 @@ use Rattle.names.specs.InByte.{name_of}
 use Rattle.answers.specs.Answers.{ending_as, readiness_of}
 use Rattle.writing.specs.Written.{Wrote}
 use Rattle.answers.specs.declared.Readiness.{Readiness}
-use Rattle.listing.specs.declared.Listing.{Listing}
+use Rattle.listing.specs.declared.laid.Listing.{Listing}
 use Rattle.listing.specs.Laid.{Laid}
 use Rattle.lines.specs.FirstSteps.{first_steps}
 
@@ -73,7 +73,7 @@ drop-zeros zero (suc k) = let none : 0 ≡ 0 - suc k = omega arith in ap zeros n
 drop-zeros (suc n) (suc k) =
     let same : n - k ≡ suc n - suc k = omega arith in drop-zeros n k ∙ ap zeros same
 
-pub laid : (text bytes : List ℕ) (r : ℕ) → Wrote (zeros 1293) text bytes r → r ≤ 1293 → Laid text (record { bytes = bytes; length = r })
+pub laid : (text bytes : List ℕ) (r : ℕ) → Wrote (zeros 1293) text bytes r → (h : r ≤ 1293) → Laid text (record { bytes = bytes; length = r; within = h })
 laid text bytes r w h =
     record {
       counted = w.0;

@@ -1,7 +1,7 @@
 -- What a listing that was laid out holds: the text in front, and zeros after it.
 -- Assumes nothing: these are definitions.
 use Rattle.std.specs.Prelude.{ℕ, ◌-◌, ◌≤◌, ◌≡◌, List, ◌++◌, length, replicate}
-use Rattle.listing.specs.declared.Listing.{Listing}
+use Rattle.listing.specs.declared.laid.Listing.{Listing}
 
 pub record Laid (text : List ℕ) (r : Listing) : Type 0 where
   pub counted : r.length ≡ length text

@@ -6,14 +6,10 @@ ghost use Rattle.model.specs.Listing.{listing_of, table_read, schedule_read};
 ghost use Rattle.writing.specs.Written.{Wrote};
 ghost use Rattle.listing.specs.Laid.{Laid};
 
-use execution::Course;
+pub mod laid;
 
-// A listing: the first `length` of the bytes. No listing is longer: 256 steps take at most 5 bytes each, the ending at most 13.
-#[derive(Clone, Copy)]
-pub struct Listing {
-    pub bytes: [u8; 1293],
-    pub length: usize,
-}
+pub use laid::Listing;
+use state::Site;
 
 // Lays out the listing of a table and a schedule. It is also the listing of any two files of which these are the beginnings, cut at 2,085 and 257
 // bytes.
@@ -33,30 +29,13 @@ fn write(table: &[u8], schedule: &[u8], out: &mut [u8]) -> usize
     ensures wrote { Wrote out.old (listing_of table.now schedule.now) out.new result }
     ensures upper_bound { result ≤ 1293 }
 {
-    let mut comms = [0u64; 256];
-    let mut log = [0u8; 4096];
-    let mut ends = [0usize; 32];
-    let mut queues = [0u8; 72];
-    let mut journal = [0usize; 257];
+    let mut site = Site::fresh();
     let mut names = [0u8; 256];
-    let execution = execution::execute(
-        table,
-        schedule,
-        &mut comms,
-        &mut log,
-        &mut ends,
-        &mut queues,
-        &mut journal,
-        &mut names,
-    );
-    let course = execution.course;
-    match course {
-        Course::End => {
-            let actors = execution.actors;
-            let readiness = readiness::answer(table, actors, &comms, &queues);
-            let ending = readiness.ending;
-            lines::run(&names, schedule.len(), ending, out)
+    match execution::execute(table, schedule, &mut site, &mut names) {
+        Ok(actors) => {
+            let now = readiness::answer(table, actors, &site);
+            lines::run(&names, schedule.len(), now.ending, out)
         }
-        Course::Refused(refusal) => lines::refused(refusal.number(), refusal.position(), out),
+        Err(refusal) => lines::refused(refusal.number(), refusal.position(), out),
     }
 }

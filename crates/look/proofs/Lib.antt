@@ -1,4 +1,3 @@
--- A look at a list, place by place.
-pub mod Places
-pub mod Found
+-- A look at a list, and what a look depends on.
+pub mod Looking
 pub mod Sees

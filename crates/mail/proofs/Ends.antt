@@ -11,7 +11,7 @@ use lib.Dec.{eqb}
 use lib.ListN.{length, get_or, set}
 use lib.Seq.{get_or-set_same, get_or-set_other}
 use Rattle.trace.proofs.Bools.{which}
-use Rattle.state.specs.State.{head_in, tail_in}
+use Rattle.state.specs.Rooms.{head_in, tail_in}
 
 -- ends of one kind, heads or tails: a store at port n's leaves the others'; what holds of the stored one, and of every one before the store, holds of
 -- every one after it

@@ -5,16 +5,18 @@ use Prim.Native.Nat.{ℕ, ◌+◌, ◌*◌, ◌^◌, ◌<◌, ◌≤◌}
 use native.Mathlib.Omega.{arith}
 use mathlib.Core.Path.{◌≡◌, sym, ◌∙◌, ap}
 use mathlib.Core.List.{List, [], ◌∷◌}
-use lib.ListN.{length, get_or, set, length-set}
+use lib.ListN.{length, get_or, set}
 use Rattle.trace.specs.Machine.{Name}
 use Rattle.trace.specs.Order.{eq_name}
 use Rattle.model.specs.Site.{upd, Port, opposite, done}
 use Rattle.model.specs.Mail.{pair_value, carried, pair, meet, meet_with}
 use Rattle.names.specs.InByte.{name_of}
-use Rattle.state.specs.State.{comm_of, comms_of, port_number, head_in, tail_in, waiting_of, mail_of, MailRoom}
-use Rattle.mail.specs.Parts.{pending_code, done_code, paired, oldest_in, appended, head_on, tail_on, Posted}
-use Rattle.mail.proofs.Changes.{each_after}
-use Rattle.mail.proofs.Ends.{heads-kept, tails-kept, each-head, each_tail}
+use Rattle.state.specs.State.{comm_of, comms_of, port_number, waiting_of, mail_of}
+use Rattle.state.specs.Rooms.{head_in, tail_in, MailRoom}
+use Rattle.state.specs.declared.arrays.Mail.{Mail}
+use Rattle.std.specs.Prelude.{Option, Some, None, unwrap_or}
+use Rattle.mail.specs.Parts.{port_at, pending_code, paired, oldest_in, appended, head_on, tail_on, Joined, Posted}
+use Rattle.mail.proofs.Ends.{tails-kept, each_tail}
 use Rattle.mail.proofs.Comms.{joined, both-done, carried-at}
 use Rattle.mail.proofs.Queues.{waiting-appended, waiting-taken, waiting-some, waiting_none}
 
@@ -43,31 +45,13 @@ module _ (comms log ends : List ℕ) (room : MailRoom comms log ends) (me value 
               let w = waiting-appended log ends room.log-room own-number own-small port is-own me free in
               λ i. record { comm = c i; waiting = w i }
 
-      join-room : MailRoom (set comms me (pending_code value)) (appended log ends own-number me) (tail_on ends own-number)
-      join-room =
-          let r = room.log-room in
-          let v : ℕ = tail_in ends own-number + 1 in
+      pub join-posted : {before after : Mail} → before.comms ≡ comms → before.log ≡ log → before.ends ≡ ends → Joined me own-number value before after
+          → Posted port (name_of me) value before after
+      join-posted {before} {after} p q r j =
           record {
-            comms-room = record {
-              long = length-set comms me (pending_code value) ∙ room.comms-room.long;
-              valued =
-                  each_after (λ (k c : ℕ). c < 2 ^ 42) comms me (pending_code value) (omega (arith, room.comms-room.long)) (omega arith)
-                  room.comms-room.valued;
-            };
-            log-room = record {
-              log-long = length-set log (256 * own-number + tail_in ends own-number) me ∙ r.log-long;
-              ends-long = length-set ends (2 * own-number + 1) v ∙ r.ends-long;
-              ordered = λ k.
-                  rw (heads-kept ends own-number v k)
-                  (each_tail ends own-number v r.ends-long own-small (λ (j t : ℕ). head_in ends j ≤ t) (omega (arith, r.ordered own-number)) r.ordered k);
-              bounded = each_tail ends own-number v r.ends-long own-small (λ (k t : ℕ). t ≤ 256) (omega arith) r.bounded;
-            };
+            mail = rw (j.comms, j.log, j.ends, p, q, r) join-meets;
+            grown = rw (j.ends, r) (grown-by-one ends own-number room.log-room.ends-long own-small);
           }
-
-      pub join-posted : {comms' log' ends' : List ℕ} → comms' ≡ set comms me (pending_code value) → log' ≡ appended log ends own-number me
-          → ends' ≡ tail_on ends own-number → Posted port (name_of me) value comms log ends comms' log' ends'
-      join-posted p q r =
-          rw (p, q, r) (record { mail = join-meets; room = join-room; grown = grown-by-one ends own-number room.log-room.ends-long own-small })
 
   -- ---- a step is pending on the other side: the step pairs with the oldest
 
@@ -98,36 +82,32 @@ module _ (comms log ends : List ℕ) (room : MailRoom comms log ends) (me value 
               ap (λ (x : ℕ). name_of x ∷ rest) is-oldest
               ∙ sym (waiting-some log ends room.log-room other-number other-small (opposite port) is-other some)
 
-      pair-room : MailRoom (paired comms me other sent) log (head_on ends other-number)
-      pair-room =
-          let r = room.log-room in
-          let v : ℕ = head_in ends other-number + 1 in
-          let first : List ℕ = set comms other (done_code me sent) in
-          let first-long : length first ≡ 256 = length-set comms other (done_code me sent) ∙ room.comms-room.long in
+      pub pair-posted : {before after : Mail} → before.comms ≡ comms → before.log ≡ log → before.ends ≡ ends
+          → after.comms ≡ paired comms me other sent → after.log ≡ log → after.ends ≡ head_on ends other-number
+          → Posted port (name_of me) value before after
+      pair-posted p q r x y z =
           record {
-            comms-room = record {
-              long = length-set first me (done_code other sent) ∙ first-long;
-              valued =
-                  each_after (λ (k c : ℕ). c < 2 ^ 42) first me (done_code other sent) (omega arith) (omega arith)
-                  (each_after (λ (k c : ℕ). c < 2 ^ 42) comms other (done_code me sent) (omega (arith, room.comms-room.long)) (omega arith)
-                  room.comms-room.valued);
-            };
-            log-room = record {
-              log-long = r.log-long;
-              ends-long = length-set ends (2 * other-number) v ∙ r.ends-long;
-              ordered = λ k.
-                  rw (tails-kept ends other-number v k)
-                  (each-head ends other-number v r.ends-long other-small (λ (j h : ℕ). h ≤ tail_in ends j) (omega arith) r.ordered k);
-              bounded = λ k. rw (tails-kept ends other-number v k) (r.bounded k);
-            };
+            mail = rw (x, y, z, p, q, r) pair-meets;
+            grown = rw (z, r) (λ n. omega (arith, tails-kept ends other-number (head_in ends other-number + 1) n));
           }
 
-      pub pair-posted : {comms' ends' : List ℕ} → comms' ≡ paired comms me other sent → ends' ≡ head_on ends other-number
-          → Posted port (name_of me) value comms log ends comms' log ends'
-      pair-posted p q =
-          rw (p, q)
-          (record {
-            mail = pair-meets;
-            room = pair-room;
-            grown = λ n. omega (arith, tails-kept ends other-number (head_in ends other-number + 1) n);
-          })
+-- ---- a Send of a value, or else a Receive
+
+-- a port's number and the opposite port's
+pub record Numbers (m : ℕ) (sent : Option ℕ) (numbers : ℕ × ℕ) : Type 0 where
+  pub own : numbers.0 ≡ port_number (port_at m sent)
+  pub theirs : numbers.1 ≡ port_number (opposite (port_at m sent))
+  pub small : (numbers.0 < 16) × (numbers.1 < 16)
+
+pub sending : (m value : ℕ) (sent : Option ℕ) (numbers : ℕ × ℕ) → m < 8 → sent ≡ Some value → numbers ≡ (2 * m, 2 * m + 1) → Numbers m sent numbers
+sending m value sent numbers small s n = rw (s, n) (record { own = omega arith; theirs = omega arith; small = (omega arith, omega arith) })
+
+pub receiving : (m : ℕ) (sent : Option ℕ) (numbers : ℕ × ℕ) → m < 8 → sent ≡ None → numbers ≡ (2 * m + 1, 2 * m) → Numbers m sent numbers
+receiving m sent numbers small s n = rw (s, n) (record { own = omega arith; theirs = omega arith; small = (omega arith, omega arith) })
+
+-- the value of the pair that it makes
+pub pair_sent : (m value kept : ℕ) (sent : Option ℕ) (v : ℕ) → sent ≡ Some v → value ≡ v → value ≡ pair_value (port_at m sent).side (unwrap_or sent 0) kept
+pair_sent m value kept sent v s e = rw s e
+
+pub pair_kept : (m value kept : ℕ) (sent : Option ℕ) → sent ≡ None → value ≡ kept → value ≡ pair_value (port_at m sent).side (unwrap_or sent 0) kept
+pair_kept m value kept sent s e = rw s e

@@ -9,15 +9,17 @@ use mathlib.Core.Bool.{true, false}
 use mathlib.Core.List.{List, [], ◌∷◌, ◌++◌, map, map-append}
 use borrow.Author.Tests.{ltb-true, ltb-false}
 use lib.Dec.{ltb}
-use lib.ListN.{length, get_or, take, drop, set, length-drop}
-use lib.Seq.{drop-set-lt, drop-set-add, take-set-le, take-suc-set, drop-cons}
+use lib.ListN.{get_or, take, drop, set}
+use lib.Seq.{drop-set-lt, drop-set-add, take-set-le, drop-cons}
 use Rattle.trace.proofs.Bools.{which}
 use Rattle.model.specs.Site.{upd, Side, sends, receives, Port, eq_port}
 use Rattle.model.specs.Mail.{at_end}
 use Rattle.model.proofs.Ports.{port-test}
 use Rattle.names.specs.InByte.{name_of}
-use Rattle.state.specs.State.{side_number, port_number, head_in, tail_in, pending_in, waiting_of, LogRoom}
+use Rattle.state.specs.State.{side_number, port_number, pending_in, waiting_of}
+use Rattle.state.specs.Rooms.{head_in, tail_in, LogRoom}
 use Rattle.mail.specs.Parts.{oldest_in, appended, head_on, tail_on}
+use Rattle.state.proofs.Stored.{stored}
 use Rattle.mail.proofs.Changes.{changed-at}
 use Rattle.mail.proofs.Ends.{heads-kept, tails-kept, head-other, tail-other, head-own, tail-own}
 
@@ -46,11 +48,6 @@ part-kept log i v s k (inr h) =
     ∙ ap (take k) (drop-set-add s log (i - s) v)
     ∙ take-set-le k (drop s log) (i - s) v (omega arith)
 
--- a store right after a part makes it longer
-part-longer : (log : List ℕ) (v s k : ℕ) → s + k < length log → take (suc k) (drop s (set log (s + k) v)) ≡ take k (drop s log) ++ (v ∷ [])
-part-longer log v s k h =
-    ap (take (suc k)) (drop-set-add s log k v) ∙ take-suc-set (drop s log) k v (omega (arith, length-drop s log))
-
 -- two ports' logs don't meet
 apart : (k n h l t : ℕ) → k ≢ n → h + l ≤ 256 → t < 256 → (256 * n + t < 256 * k + h) ⊎ (256 * k + h + l ≤ 256 * n + t)
 apart k n h l t ne b c = go (which (ltb n k))
@@ -74,13 +71,13 @@ module _ (log ends : List ℕ) (room : LogRoom log ends) (n : ℕ) (small : n < 
     append-own =
         let s : ℕ = 256 * n + head_in ends n in
         let k : ℕ = tail_in ends n - head_in ends n in
-        let e : tail_in (tail_on ends n) n - head_in ends n ≡ suc k =
+        let e : tail_in (tail_on ends n) n - head_in ends n ≡ k + 1 =
         omega (arith, tail-own ends n (tail_in ends n + 1) room.ends-long small, room.ordered n) in
         let f : 256 * n + tail_in ends n ≡ s + k = omega (arith, room.ordered n) in
         head-stays n
         ∙ ap (λ (j : ℕ). take j (drop s (appended log ends n me))) e
-        ∙ ap (λ (i : ℕ). take (suc k) (drop s (set log i me))) f
-        ∙ part-longer log me s k (omega (arith, f, room.log-long))
+        ∙ ap (λ (i : ℕ). take (k + 1) (drop s (set log i me))) f
+        ∙ stored log s k me (omega (arith, f, room.log-long))
 
     append-other : (k : ℕ) → k ≢ n → pending_in (appended log ends n me) (tail_on ends n) k ≡ pending_in log ends k
     append-other k ne =

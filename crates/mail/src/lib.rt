@@ -2,77 +2,61 @@
 // same time however many steps are pending.
 #![tactic(auto)]
 
-ghost use Rattle.std.specs.Prelude.{◌≡◌, ◌+◌, ◌*◌, ◌^◌, ◌<◌, length, set};
+ghost use Rattle.std.specs.Prelude.{◌≡◌, ◌+◌, ◌*◌, ◌^◌, ◌<◌, length, unwrap_or};
 ghost use Rattle.model.specs.Mail.{carried as carried_by};
 ghost use Rattle.names.specs.InByte.{name_of};
-ghost use Rattle.state.specs.State.{comm_of, head_in, tail_in, MailRoom};
-ghost use Rattle.mail.specs.Parts.{sends_at, receives_at, pending_code, paired, oldest_in, appended, head_on, tail_on, Posted};
+ghost use Rattle.state.specs.State.{comm_of, port_number};
+ghost use Rattle.state.specs.Rooms.{head_in, tail_in};
+ghost use Rattle.mail.specs.Parts.{sends_at, receives_at, port_at, paired, oldest_in, head_on, Posted, Joined};
 
-use table::bytes;
+use state::Mail;
 
 // A Send of a value by the step `me` to mailbox m.
-pub fn send(
-    comms: &mut [u64; 256],
-    log: &mut [u8; 4096],
-    ends: &mut [usize; 32],
-    me: usize,
-    m: usize,
-    value: u32,
-)
-    requires { MailRoom comms.old log.old ends.old × (me < 256) × (m < 8) × (tail_in ends.old (2 * m) < 256) }
-    ensures { Posted (sends_at m) (name_of me) value comms.old log.old ends.old
-        comms.new log.new ends.new }
+pub fn send(mail: &mut Mail, me: usize, m: usize, value: u32)
+    requires { (me < 256) × (m < 8) × (tail_in mail.old.ends (2 * m) < 256) }
+    ensures { Posted (sends_at m) (name_of me) value mail.old mail.new }
 {
-    let theirs = 2 * m + 1;
-    if ends[2 * theirs] < ends[2 * theirs + 1] {
-        let other = take_oldest(log, ends, theirs);
-        settle(comms, me, other, value as u64);
-        return;
-    }
-    join(comms, log, ends, me, 2 * m, value as u64);
+    post(mail, me, m, Some(value));
 }
 
 // A Receive by the step `me` from mailbox m.
-pub fn receive(
-    comms: &mut [u64; 256],
-    log: &mut [u8; 4096],
-    ends: &mut [usize; 32],
-    me: usize,
-    m: usize,
-)
-    requires { MailRoom comms.old log.old ends.old × (me < 256) × (m < 8) × (tail_in ends.old (2 * m + 1) < 256) }
-    ensures { Posted (receives_at m) (name_of me) 0 comms.old log.old ends.old
-        comms.new log.new ends.new }
+pub fn receive(mail: &mut Mail, me: usize, m: usize)
+    requires { (me < 256) × (m < 8) × (tail_in mail.old.ends (2 * m + 1) < 256) }
+    ensures { Posted (receives_at m) (name_of me) 0 mail.old mail.new }
 {
-    let theirs = 2 * m;
-    if ends[2 * theirs] < ends[2 * theirs + 1] {
-        let other = take_oldest(log, ends, theirs);
-        let value = carried(comms[other]);
-        settle(comms, me, other, value);
-        return;
+    post(mail, me, m, None);
+}
+
+// A Send of the value `sent`, or else a Receive: it pairs with the oldest step that is pending on the other side, or joins its own side's end.
+fn post(mail: &mut Mail, me: usize, m: usize, sent: Option<u32>)
+    requires { (me < 256) × (m < 8) × (tail_in mail.old.ends (port_number (port_at m sent)) < 256) }
+    ensures { Posted (port_at m sent) (name_of me) (unwrap_or sent 0) mail.old mail.new }
+{
+    let (own, theirs) = match sent {
+        Some(_) => (2 * m, 2 * m + 1),
+        None => (2 * m + 1, 2 * m),
+    };
+    if mail.ends[2 * theirs] < mail.ends[2 * theirs + 1] {
+        let other = take_oldest(&mail.log, &mut mail.ends, theirs);
+        let value = match sent {
+            Some(value) => u64::from(value),
+            None => carried(mail.comms[other]),
+        };
+        settle(&mut mail.comms, me, other, value);
+    } else {
+        join(mail, me, own, u64::from(sent.unwrap_or(0)));
     }
-    join(comms, log, ends, me, 2 * m + 1, 0);
 }
 
 // A step joins the end of port n's queue.
-fn join(
-    comms: &mut [u64; 256],
-    log: &mut [u8; 4096],
-    ends: &mut [usize; 32],
-    me: usize,
-    n: usize,
-    value: u64,
-)
-    requires { (length comms.old ≡ 256) × (length log.old ≡ 4096) × (length ends.old ≡ 32) × (me < 256) × (n < 16) × (value < 2 ^ 32)
-        × (tail_in ends.old n < 256) }
-    ensures { (comms.new ≡ set comms.old me (pending_code value))
-        × (log.new ≡ appended log.old ends.old n me)
-        × (ends.new ≡ tail_on ends.old n) }
+fn join(mail: &mut Mail, me: usize, n: usize, value: u64)
+    requires { (me < 256) × (n < 16) × (value < 2 ^ 32) × (tail_in mail.old.ends n < 256) }
+    ensures { Joined me n value mail.old mail.new }
 {
-    let at = ends[2 * n + 1];
-    comms[me] = 1 + 1024 * value;
-    log[256 * n + at] = me as u8;
-    ends[2 * n + 1] = at + 1;
+    let at = mail.ends[2 * n + 1];
+    mail.comms[me] = 1 + 1024 * value;
+    mail.log[256 * n + at] = me as u8;
+    mail.ends[2 * n + 1] += 1;
 }
 
 // The oldest step of port n's queue, which leaves it.
@@ -81,8 +65,8 @@ fn take_oldest(log: &[u8; 4096], ends: &mut [usize; 32], n: usize) -> usize
     ensures { (result ≡ oldest_in log.now ends.old n) × (result < 256) × (ends.new ≡ head_on ends.old n) }
 {
     let at = ends[2 * n];
-    ends[2 * n] = at + 1;
-    bytes::wide(log[256 * n + at])
+    ends[2 * n] += 1;
+    usize::from(log[256 * n + at])
 }
 
 // A step and another become a pair, which carries a value.
@@ -99,8 +83,5 @@ fn carried(c: u64) -> u64
     requires { c < 2 ^ 42 }
     ensures { (result ≡ carried_by (comm_of c)) × (result < 2 ^ 32) }
 {
-    if c % 4 == 0 {
-        return 0;
-    }
-    c / 1024
+    if c % 4 == 0 { 0 } else { c / 1024 }
 }

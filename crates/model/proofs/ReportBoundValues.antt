@@ -1,7 +1,7 @@
 -- Where every byte of the table is below 256, every cell and every value that a communication carries is below 2^32: a step whose total would not
 -- be is not taken.
 -- Assumes nothing.
-use Prim.Native.Nat.{ℕ, zero, suc, ◌+◌, ◌^◌, ◌<◌}
+use Prim.Native.Nat.{ℕ, zero, suc, ◌+◌, ◌^◌, ◌<◌, ◌≤◌}
 use native.Mathlib.Omega.{arith}
 use mathlib.Core.Path.{◌≡◌, ap}
 use mathlib.Core.Logic.{◌⊎◌, inl, inr}
@@ -22,13 +22,13 @@ use Rattle.trace.specs.Schedule.{accepted, final}
 use Rattle.trace.proofs.Bools.{which}
 use Rattle.trace.proofs.Run.{first-ready, rest-accepted}
 use Rattle.model.specs.Site.{upd, Side, sends, receives, Port, opposite, Comm, Mail, Entry, Site, name, initial}
-use Rattle.model.specs.Views.{listed, Post, silent, mails, joins, leaves, notes, posts, Look, blind, communications, mutexes, looks, sent, Write, keeps, puts, written, view_of, total, largest, runs_over}
+use Rattle.model.specs.Views.{Post, silent, mails, joins, leaves, notes, posts, Look, blind, communications, mutexes, looks, sent, Write, keeps, puts, written, view_of, total, largest, runs_over}
 use Rattle.model.specs.Mail.{carried, pair_value, meet_with, mailing}
 use Rattle.model.specs.Journal.{noting}
 use Rattle.model.specs.Local.{Seen, unseen, seen, first, see, place_seen, pick_up_seen, picked_up, cells_after}
 use Rattle.model.specs.Step.{is_taken, action_at, next_name, next_action, passes, ready, step}
 use Rattle.model.specs.Schedule.{machine, end_state}
-use Rattle.model.proofs.ByKind.{Posting, quiet, sends-to, receives-from, locks, unlocks, writes_down, posting, Looking, blindly, testing, mutex-testing, looking, test-looks, mutex-looks}
+use Rattle.model.proofs.ByKind.{Posting, quiet, sends-to, receives-from, locks, unlocks, writes_down, posting, Looking, blindly, testing, mutex-testing, looking, mutex-looks}
 use Rattle.model.proofs.Invariant.{others-record}
 use Rattle.model.proofs.NextSteps.{taken-fits}
 use Rattle.model.proofs.Checks.{ready-parts}
@@ -82,6 +82,32 @@ module _ (table : List ℕ) (bytes : (j : ℕ) → byte_at table j < 256) where
   action-small : (x : Name) → Small (set_value (action_at table x))
   action-small x = decoded-small _ _
 
+-- ---- how many numbers an action of a table lists
+
+abbrev look_length : Look → ℕ
+look_length blind = 0
+look_length (communications list) = length list
+look_length (mutexes list) = length list
+
+module _ (table : List ℕ) where
+  decoded-short : (kind at : ℕ) → look_length (looks (decode_as kind table at)) ≤ 4
+  unfolding decode_as
+  decoded-short zero at = omega arith
+  decoded-short (suc zero) at = omega arith
+  decoded-short (suc (suc zero)) at = omega arith
+  decoded-short (suc (suc (suc zero))) at = omega arith
+  decoded-short (suc (suc (suc (suc zero)))) at = omega arith
+  decoded-short (suc (suc (suc (suc (suc zero))))) at = omega (arith, length-take {A = ℕ})
+  decoded-short (suc (suc (suc (suc (suc (suc zero)))))) at = omega (arith, length-take {A = ℕ})
+  decoded-short (suc (suc (suc (suc (suc (suc (suc zero))))))) at = omega arith
+  decoded-short (suc (suc (suc (suc (suc (suc (suc (suc zero)))))))) at = omega arith
+  decoded-short (suc (suc (suc (suc (suc (suc (suc (suc (suc zero))))))))) at = omega (arith, length-take {A = ℕ})
+  decoded-short (suc (suc (suc (suc (suc (suc (suc (suc (suc (suc zero)))))))))) at = omega (arith, length-take {A = ℕ})
+  decoded-short (suc (suc (suc (suc (suc (suc (suc (suc (suc (suc (suc kind))))))))))) at = omega arith
+
+  looks-short : (x : Name) → look_length (looks (action_at table x)) ≤ 4
+  looks-short x = decoded-short _ _
+
 -- ---- what a look finds
 
 abbrev SmallSeen : Seen → Type 0
@@ -101,19 +127,13 @@ first_small test value from (x ∷ l) b h = go (which (test x)) (first_small tes
     go (inl e) rest = rw e (omega arith, h x)
     go (inr e) rest = rw e rest
 
-listed-short : (l : Numbers) → Small (1 + length (listed l))
-listed-short l = omega (arith, length-take l.count (l.n0 ∷ l.n1 ∷ l.n2 ∷ l.n3 ∷ []))
-
 abbrev pub SmallMail : Mail → Type 0
 SmallMail m = (x : Name) → Small (carried (m.comm x))
 
-see-small : (s : Site) → SmallMail s.mail → (a : ℕ) (x : Action) → SmallSeen (see s a (looks x))
-see-small s h a x = go (looking x)
-  where
-    go : Looking x → SmallSeen (see s a (looks x))
-    go (blindly e) = rw e tt
-    go (testing list w) = rw (test-looks x list w) (first_small _ _ 1 (listed list) (listed-short list) (λ k. h (name a k)))
-    go (mutex-testing list w) = rw (mutex-looks x list w) (first_small _ _ 1 (listed list) (listed-short list) (λ k. omega arith))
+see-small : (s : Site) → SmallMail s.mail → (a : ℕ) (look : Look) → look_length look ≤ 4 → SmallSeen (see s a look)
+see-small s h a blind short = tt
+see-small s h a (communications list) short = first_small _ _ 1 list (omega arith) (λ k. h (name a k))
+see-small s h a (mutexes list) short = first_small _ _ 1 list (omega arith) (λ k. omega arith)
 
 -- ---- the cells after a local step
 
@@ -268,7 +288,7 @@ module _ (table : List ℕ) (bytes : (j : ℕ) → byte_at table j < 256) where
       go (inl e) =
           rw (eqb-true b a e, own-record table s a)
           (cells_after-small (λ k. action_at table (name a k)) (next_action table s a) (see s a (looks (next_action table s a))) (s.actor a).cells
-          (h.cells a) (action-small table bytes (next_name table s a)) (total-small table s a r) (see-small s h.values a (next_action table s a)))
+          (h.cells a) (action-small table bytes (next_name table s a)) (total-small table s a r) (see-small s h.values a _ (looks-short table (next_name table s a))))
       go (inr e) = rw (others-record table s b a (eqb-false b a e)) (h.cells b)
 
   pub small-step : (s : Site) (a : ℕ) → ready table s a ≡ true → SmallSite s → SmallSite (step table s a)

@@ -1,7 +1,7 @@
 -- What an action does, one line a kind, so that what follows goes by a few cases and not by the kinds: what it posts, what it looks at, whether it
 -- waits for what it looks at, the value that it sends or notes, where a value that is picked up goes, the total that it makes, and what it writes.
 -- Assumes nothing: these are definitions.
-use Rattle.std.specs.Prelude.{ℕ, ◌+◌, min, Bool, true, false, List, [], ◌∷◌, ltb, get_or, set, take}
+use Rattle.std.specs.Prelude.{ℕ, ◌+◌, min, Bool, true, false, List, ltb, get_or, set, take}
 use Rattle.table.specs.declared.Action.{Action}
 use Rattle.table.specs.declared.Action.TheVariants.{Set, Add, Lesser, Send, Receive, TestAny, WaitAny, Lock, Unlock, MutexTest, MutexWait, Note}
 use Rattle.table.specs.declared.Numbers.{Numbers}
@@ -9,7 +9,7 @@ use Rattle.model.specs.Site.{Port, sends, receives}
 
 -- the numbers that a list names, in its order
 abbrev pub listed : Numbers → List ℕ
-listed l = take l.count (l.n0 ∷ l.n1 ∷ l.n2 ∷ l.n3 ∷ [])
+listed l = take l.count l.all
 
 -- what a step changes besides its own record: nothing; it posts to a port; it joins a mutex's queue, or leaves it; it adds to the journal
 pub data Post : Type 0 where

@@ -1,122 +1,110 @@
 -- Lock and Unlock of the model on a queue whose entries are bytes, by the place of the actor's entry.
 -- Assumes nothing.
-use Prim.Native.Nat.{ℕ, suc, ◌+◌, ◌-◌, ◌/◌, ◌%◌, ◌<◌, ◌≤◌}
-use native.Mathlib.Omega.{arith}
-use mathlib.Core.Path.{◌≡◌, refl, sym, ◌∙◌, ap}
-use mathlib.Core.Logic.{◌⊎◌, inl, inr}
-use mathlib.Core.Bool.{true, false}
-use mathlib.Core.List.{List, [], ◌∷◌, ◌++◌, map}
-use lib.Dec.{eqb}
-use lib.ListN.{length, get_or, take, drop, set}
-use borrow.Author.Tests.{eqb-true}
+use Rattle.std.proofs.Common.{◌≡◌, refl, sym, ◌∙◌, ap, ℕ, zero, suc, ◌+◌, ◌-◌, ◌/◌, ◌%◌, ◌<◌, ◌≤◌, Bool, true, false, ◌⊎◌, inl, inr, List, [], ◌∷◌, ◌++◌, map, eqb, ltb, length, get_or, set, take, drop, Some, None, arith}
+use Rattle.std.specs.List.{position, position_or_len}
+use Rattle.std.proofs.lemmas.List.Quantifiers.{position-Some}
+use Rattle.std.proofs.lemmas.List.Sums.{fails_before_first}
+use borrow.Author.Tests.{eqb-true, ltb-false}
+use native.Mathlib.Nat.{le_of_suc-le-suc}
+use Prim.Native.Nat.{suc-le-suc}
 use Rattle.trace.proofs.Bools.{which}
 use Rattle.model.specs.Site.{Queued}
 use Rattle.model.specs.Mutex.{join, standing, leave}
 use Rattle.model.specs.Depths.{depth_in}
 use Rattle.model.proofs.QueuedDepths.{join-own}
 use Rattle.state.specs.State.{queued_of}
-use Rattle.mutex.specs.Parts.{place_of}
 
 -- the queue that the bytes hold
 abbrev queue_of : List ℕ → List Queued
 queue_of l = map queued_of l
 
+-- whether an entry is an actor's
+abbrev pub is_of : ℕ → ℕ → Bool
+is_of a b = eqb a (b % 8)
+
+-- an actor's entry stands at i, the first that is its
+pub record QueuedAt (l : List ℕ) (a i : ℕ) : Type 0 where
+  pub inside : i < length l
+  pub own : is_of a (get_or l i 0) ≡ true
+  pub before : (k : ℕ) → k < i → is_of a (get_or l k 0) ≡ false
+
+-- no entry is the actor's
+pub record Absent (l : List ℕ) (a : ℕ) : Type 0 where
+  pub each : (k : ℕ) → k < length l → is_of a (get_or l k 0) ≡ false
+
+-- what a search for the actor's entry tells
+pub queued-at : (l : List ℕ) (a i : ℕ) → Some i ≡ position (is_of a) l → QueuedAt l a i
+queued-at l a i e =
+    let at : (i < length l) × (is_of a (get_or l i 0) ≡ true) × ((k : ℕ) → k < i → is_of a (get_or l k 0) ≡ false) = position-Some (is_of a) l i 0 (sym e) in
+    record { inside = at.0; own = at.1; before = at.2 }
+
+pub absent : (l : List ℕ) (a : ℕ) → None ≡ position (is_of a) l → Absent l a
+absent l a e = record { each = go (which (ltb (position_or_len (is_of a) l) (length l))) }
+  where
+    go : (ltb (position_or_len (is_of a) l) (length l) ≡ true) ⊎ (ltb (position_or_len (is_of a) l) (length l) ≡ false) → (k : ℕ) → k < length l
+        → is_of a (get_or l k 0) ≡ false
+    go (inl t) k h = let some : None ≡ Some (position_or_len (is_of a) l) = rw t at e in cc
+    go (inr f) k h = fails_before_first (is_of a) l k 0 (omega (arith, ltb-false _ _ f))
+
+-- the same behind the first entry
+later : {b : ℕ} {l : List ℕ} {a i : ℕ} → QueuedAt (b ∷ l) a (suc i) → QueuedAt l a i
+later q = record { inside = le_of_suc-le-suc q.inside; own = q.own; before = λ k h. q.before (suc k) (suc-le-suc h) }
+
+absent-later : {b : ℕ} {l : List ℕ} {a : ℕ} → Absent (b ∷ l) a → Absent l a
+absent-later n = record { each = λ k h. n.each (suc k) (suc-le-suc h) }
+
 entry : (a b d : ℕ) → a ≡ b % 8 → d ≡ b / 8 + 1 → record { actor = a; depth = d } ≡ queued_of b
 entry a b d who deep i = record { actor = who i; depth = deep i }
 
 -- an actor that is not queued joins the end
-pub join-new : (l : List ℕ) (a : ℕ) → a < 8 → length l ≤ place_of l a → join (queue_of l) a ≡ queue_of (l ++ (a ∷ []))
-join-new [] a small h = ap {B = List Queued} (λ x. x ∷ []) (entry a a 1 (omega arith) (omega arith))
-join-new (b ∷ l) a small h = go (which (eqb a (b % 8))) (join-new l a small)
-  where
-    go : (eqb a (b % 8) ≡ true) ⊎ (eqb a (b % 8) ≡ false) → (length l ≤ place_of l a → join (queue_of l) a ≡ queue_of (l ++ (a ∷ [])))
-        → join (queue_of (b ∷ l)) a ≡ queue_of ((b ∷ l) ++ (a ∷ []))
-    go (inl e) rest = let none : length (b ∷ l) ≤ 0 = rw e at h in absurd (omega arith)
-    go (inr e) rest =
-        let further : length (b ∷ l) ≤ suc (place_of l a) = rw e at h in
-        rw e (ap {B = List Queued} (λ r. queued_of b ∷ r) (rest (omega arith)))
+pub join-new : (l : List ℕ) (a : ℕ) → a < 8 → Absent l a → join (queue_of l) a ≡ queue_of (l ++ (a ∷ []))
+join-new [] a small n = ap {B = List Queued} (λ x. x ∷ []) (entry a a 1 (omega arith) (omega arith))
+join-new (b ∷ l) a small n =
+    rw (n.each 0 (omega arith)) (ap {B = List Queued} (λ r. queued_of b ∷ r) (join-new l a small (absent-later n)))
 
 -- one that is not queued leaves nothing
-pub leave_none : (l : List ℕ) (a : ℕ) → length l ≤ place_of l a → leave (queue_of l) a ≡ queue_of l
-leave_none [] a h = refl
-leave_none (b ∷ l) a h = go (which (eqb a (b % 8))) (leave_none l a)
-  where
-    go : (eqb a (b % 8) ≡ true) ⊎ (eqb a (b % 8) ≡ false) → (length l ≤ place_of l a → leave (queue_of l) a ≡ queue_of l)
-        → leave (queue_of (b ∷ l)) a ≡ queue_of (b ∷ l)
-    go (inl e) rest = let none : length (b ∷ l) ≤ 0 = rw e at h in absurd (omega arith)
-    go (inr e) rest =
-        let further : length (b ∷ l) ≤ suc (place_of l a) = rw e at h in
-        rw e (ap {B = List Queued} (λ r. queued_of b ∷ r) (rest (omega arith)))
-
--- the byte at the actor's place
-abbrev pub found : List ℕ → ℕ → ℕ
-found l a = get_or l (place_of l a) 0
+pub leave_none : (l : List ℕ) (a : ℕ) → Absent l a → leave (queue_of l) a ≡ queue_of l
+leave_none [] a n = refl
+leave_none (b ∷ l) a n = rw (n.each 0 (omega arith)) (ap {B = List Queued} (λ r. queued_of b ∷ r) (leave_none l a (absent-later n)))
 
 -- one that is queued: a Lock adds 8 to its byte
-pub join-deeper : (l : List ℕ) (a : ℕ) → place_of l a < length l → join (queue_of l) a ≡ queue_of (set l (place_of l a) (found l a + 8))
-join-deeper [] a h = absurd (omega arith)
-join-deeper (b ∷ l) a h = go (which (eqb a (b % 8))) (join-deeper l a)
-  where
-    go : (eqb a (b % 8) ≡ true) ⊎ (eqb a (b % 8) ≡ false) → (place_of l a < length l → join (queue_of l) a ≡ queue_of (set l (place_of l a) (found l a + 8)))
-        → join (queue_of (b ∷ l)) a ≡ queue_of (set (b ∷ l) (place_of (b ∷ l) a) (found (b ∷ l) a + 8))
-    go (inl e) rest =
-        let same-actor : a ≡ b % 8 = eqb-true a (b % 8) e in
-        rw e (ap {B = List Queued} (λ x. x ∷ queue_of l) (entry a (b + 8) (suc (b / 8 + 1)) (omega arith) (omega arith)))
-    go (inr e) rest =
-        let further : suc (place_of l a) < length (b ∷ l) = rw e at h in
-        rw e (ap {B = List Queued} (λ r. queued_of b ∷ r) (rest (omega arith)))
+pub join-deeper : (l : List ℕ) (a i : ℕ) → QueuedAt l a i → join (queue_of l) a ≡ queue_of (set l i (get_or l i 0 + 8))
+join-deeper [] a i q = absurd (omega arith)
+join-deeper (b ∷ l) a zero q =
+    let same-actor : a ≡ b % 8 = eqb-true a (b % 8) q.own in
+    rw q.own (ap {B = List Queued} (λ x. x ∷ queue_of l) (entry a (b + 8) (suc (b / 8 + 1)) (omega arith) (omega arith)))
+join-deeper (b ∷ l) a (suc i) q =
+    rw (q.before 0 (omega arith)) (ap {B = List Queued} (λ r. queued_of b ∷ r) (join-deeper l a i (later q)))
 
 -- an Unlock takes 8 off, where there are
-pub leave-shallower : (l : List ℕ) (a : ℕ) → place_of l a < length l → 8 ≤ found l a
-    → leave (queue_of l) a ≡ queue_of (set l (place_of l a) (found l a - 8))
-leave-shallower [] a h deep = absurd (omega arith)
-leave-shallower (b ∷ l) a h deep = go (which (eqb a (b % 8))) (leave-shallower l a)
+pub leave-shallower : (l : List ℕ) (a i : ℕ) → QueuedAt l a i → 8 ≤ get_or l i 0 → leave (queue_of l) a ≡ queue_of (set l i (get_or l i 0 - 8))
+leave-shallower [] a i q deep = absurd (omega arith)
+leave-shallower (b ∷ l) a zero q deep =
+    let same-actor : a ≡ b % 8 = eqb-true a (b % 8) q.own in
+    rw q.own
+    (one_less (b / 8 + 1 - 1) (omega arith) (queue_of l)
+    ∙ ap {B = List Queued} (λ x. x ∷ queue_of l) (entry a (b - 8) (b / 8 + 1 - 1) (omega arith) (omega arith)))
   where
-    one_less : (d : ℕ) → d ≡ suc (d - 1) → (q : List Queued) → standing a d q ≡ record { actor = a; depth = d } ∷ q
-    one_less d up q = ap (λ (k : ℕ). standing a k q) up ∙ ap {B = List Queued} (λ (k : ℕ). record { actor = a; depth = k } ∷ q) (sym up)
-
-    go : (eqb a (b % 8) ≡ true) ⊎ (eqb a (b % 8) ≡ false)
-        → (place_of l a < length l → 8 ≤ found l a → leave (queue_of l) a ≡ queue_of (set l (place_of l a) (found l a - 8)))
-        → leave (queue_of (b ∷ l)) a ≡ queue_of (set (b ∷ l) (place_of (b ∷ l) a) (found (b ∷ l) a - 8))
-    go (inl e) rest =
-        let same-actor : a ≡ b % 8 = eqb-true a (b % 8) e in
-        let more : 8 ≤ b = rw e at deep in
-        rw e
-        (one_less (b / 8 + 1 - 1) (omega arith) (queue_of l)
-        ∙ ap {B = List Queued} (λ x. x ∷ queue_of l) (entry a (b - 8) (b / 8 + 1 - 1) (omega arith) (omega arith)))
-    go (inr e) rest =
-        let further : suc (place_of l a) < length (b ∷ l) = rw e at h in
-        let more : 8 ≤ found l a = rw e at deep in
-        rw e (ap {B = List Queued} (λ r. queued_of b ∷ r) (rest (omega arith) more))
+    one_less : (d : ℕ) → d ≡ suc (d - 1) → (r : List Queued) → standing a d r ≡ record { actor = a; depth = d } ∷ r
+    one_less d up r = ap (λ (k : ℕ). standing a k r) up ∙ ap {B = List Queued} (λ (k : ℕ). record { actor = a; depth = k } ∷ r) (sym up)
+leave-shallower (b ∷ l) a (suc i) q deep =
+    rw (q.before 0 (omega arith)) (ap {B = List Queued} (λ r. queued_of b ∷ r) (leave-shallower l a i (later q) deep))
 
 -- where there are none the entry goes
-pub leave-last : (l : List ℕ) (a : ℕ) → place_of l a < length l → found l a < 8
-    → leave (queue_of l) a ≡ queue_of (take (place_of l a) l ++ drop (suc (place_of l a)) l)
-leave-last [] a h deep = absurd (omega arith)
-leave-last (b ∷ l) a h deep = go (which (eqb a (b % 8))) (leave-last l a)
-  where
-    go : (eqb a (b % 8) ≡ true) ⊎ (eqb a (b % 8) ≡ false)
-        → (place_of l a < length l → found l a < 8 → leave (queue_of l) a ≡ queue_of (take (place_of l a) l ++ drop (suc (place_of l a)) l))
-        → leave (queue_of (b ∷ l)) a ≡ queue_of (take (place_of (b ∷ l) a) (b ∷ l) ++ drop (suc (place_of (b ∷ l) a)) (b ∷ l))
-    go (inl e) rest =
-        let less : b < 8 = rw e at deep in
-        let gone : b / 8 + 1 - 1 ≡ 0 = omega arith in
-        rw e (ap (λ (d : ℕ). standing a d (queue_of l)) gone)
-    go (inr e) rest =
-        let further : suc (place_of l a) < length (b ∷ l) = rw e at h in
-        let less : found l a < 8 = rw e at deep in
-        rw e (ap {B = List Queued} (λ r. queued_of b ∷ r) (rest (omega arith) less))
+pub leave-last : (l : List ℕ) (a i : ℕ) → QueuedAt l a i → get_or l i 0 < 8 → leave (queue_of l) a ≡ queue_of (take i l ++ drop (suc i) l)
+leave-last [] a i q few = absurd (omega arith)
+leave-last (b ∷ l) a zero q few =
+    let gone : b / 8 + 1 - 1 ≡ 0 = omega arith in
+    rw q.own (ap (λ (d : ℕ). standing a d (queue_of l)) gone)
+leave-last (b ∷ l) a (suc i) q few =
+    rw (q.before 0 (omega arith)) (ap {B = List Queued} (λ r. queued_of b ∷ r) (leave-last l a i (later q) few))
 
 -- the byte is the actor's depth
-found-depth : (l : List ℕ) (a : ℕ) → place_of l a < length l → depth_in (queue_of l) a ≡ found l a / 8 + 1
-found-depth [] a h = absurd (omega arith)
-found-depth (b ∷ l) a h = go (which (eqb a (b % 8))) (found-depth l a)
-  where
-    go : (eqb a (b % 8) ≡ true) ⊎ (eqb a (b % 8) ≡ false) → (place_of l a < length l → depth_in (queue_of l) a ≡ found l a / 8 + 1)
-        → depth_in (queue_of (b ∷ l)) a ≡ found (b ∷ l) a / 8 + 1
-    go (inl e) rest = rw e
-    go (inr e) rest = let further : suc (place_of l a) < length (b ∷ l) = rw e at h in rw e (rest (omega arith))
+found-depth : (l : List ℕ) (a i : ℕ) → QueuedAt l a i → depth_in (queue_of l) a ≡ get_or l i 0 / 8 + 1
+found-depth [] a i q = absurd (omega arith)
+found-depth (b ∷ l) a zero q = rw q.own
+found-depth (b ∷ l) a (suc i) q = rw (q.before 0 (omega arith)) (found-depth l a i (later q))
 
 -- where the depth after a Lock is at most 32, there is room for 8 more
-pub deeper-room : (l : List ℕ) (a : ℕ) → place_of l a < length l → depth_in (join (queue_of l) a) a ≤ 32 → found l a + 8 < 256
-deeper-room l a h most = omega (arith, join-own (queue_of l) a, found-depth l a h)
+pub deeper-room : (l : List ℕ) (a i : ℕ) → QueuedAt l a i → depth_in (join (queue_of l) a) a ≤ 32 → get_or l i 0 + 8 < 256
+deeper-room l a i q most = omega (arith, join-own (queue_of l) a, found-depth l a i q)

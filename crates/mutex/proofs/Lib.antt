@@ -1,7 +1,6 @@
 -- The queues in arrays and in the model.
-pub mod Scan
+pub mod Moved
 pub mod Entries
 pub mod Queues
 pub mod Owning
-pub mod MovingUp
 pub mod Steps

@@ -9,7 +9,8 @@ use lib.Dec.{eqb}
 use lib.ListN.{length, get_or, take, drop}
 use lib.Seq.{drop-cons}
 use Rattle.model.specs.Mutex.{owns}
-use Rattle.state.specs.State.{queued_of, size_in, queues_of, QueueRoom}
+use Rattle.state.specs.State.{queued_of, queues_of}
+use Rattle.state.specs.Rooms.{size_in, QueueRoom}
 
 pub owner-none : (queues : List ℕ) (m a : ℕ) → size_in queues m ≡ 0 → false ≡ owns (queues_of queues m) a
 owner-none queues m a e = sym (ap (λ (n : ℕ). owns (map queued_of (take n (drop (9 * m + 1) queues))) a) e)

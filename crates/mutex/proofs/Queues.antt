@@ -12,7 +12,8 @@ use lib.Seq.{get_or-take, get_or-drop, take-take, drop-drop}
 use borrow.Author.Tests.{eqb-true, eqb-false, ltb-true, ltb-false}
 use Rattle.trace.proofs.Bools.{which}
 use Rattle.model.specs.Site.{upd}
-use Rattle.state.specs.State.{queued_of, size_in, entries_in, queues_of, QueueRoom}
+use Rattle.state.specs.State.{queued_of, entries_in, queues_of}
+use Rattle.state.specs.Rooms.{size_in, QueueRoom}
 
 -- a part of a list lies within its front
 part-of-front : (i k n : ℕ) (l : List ℕ) → i + k ≤ n → take k (drop i (take n l)) ≡ take k (drop i l)
@@ -36,10 +37,10 @@ part-behind i n l after h e =
     ∙ ap (λ (k : ℕ). drop k l) (sym far)
 
 -- and likewise one element
-elem-before : (i n : ℕ) (l after : List ℕ) → i < n → take n after ≡ take n l → get_or after i 0 ≡ get_or l i 0
+pub elem-before : (i n : ℕ) (l after : List ℕ) → i < n → take n after ≡ take n l → get_or after i 0 ≡ get_or l i 0
 elem-before i n l after h e = sym (get_or-take n after i 0 h) ∙ ap (λ (x : List ℕ). get_or x i 0) e ∙ get_or-take n l i 0 h
 
-pub elem-behind : (i n : ℕ) (l after : List ℕ) → n ≤ i → drop n after ≡ drop n l → get_or after i 0 ≡ get_or l i 0
+elem-behind : (i n : ℕ) (l after : List ℕ) → n ≤ i → drop n after ≡ drop n l → get_or after i 0 ≡ get_or l i 0
 elem-behind i n l after h e =
     let far : i ≡ n + (i - n) = omega arith in
     ap (λ (k : ℕ). get_or after k 0) far

@@ -1,35 +1,31 @@
 -- Lock and Unlock in the arrays: the model's queues after the step, in which the queues' room is kept.
 -- Assumes nothing.
-use Prim.Native.Nat.{ℕ, zero, suc, ◌+◌, ◌-◌, ◌*◌, ◌<◌, ◌≤◌}
-use native.Mathlib.Nat.{sub-zero, zero-sub}
+use Prim.Native.Nat.{ℕ, suc, ◌+◌, ◌-◌, ◌*◌, ◌<◌, ◌≤◌}
 use native.Mathlib.Omega.{arith}
 use mathlib.Core.Path.{◌≡◌, ◌∙◌, ap, ap₂, sym, subst}
 use mathlib.Core.List.{List, [], ◌∷◌, ◌++◌, map}
 use lib.Dec.{eqb}
 use lib.ListN.{length, get_or, take, drop, set, length-set, length-append, length-map}
-use lib.Seq.{get_or-set_same, get_or-set_other, get_or-take, get_or-drop, take-nil, take-take, take-add, drop-drop, take-set-le, take-set-lt, drop-set-lt, drop-set-add}
+use lib.Seq.{get_or-set_same, get_or-set_other, get_or-take, get_or-drop, take-take, take-add, drop-drop, take-set-le, take-set-lt, drop-set-lt, drop-set-add}
+use Rattle.std.proofs.Common.{Some, None}
+use Rattle.std.specs.List.{position, copy_within}
+use Rattle.std.proofs.lemmas.List.{drop-take}
 use Rattle.model.specs.Site.{Queued, upd}
 use Rattle.model.specs.Mutex.{join, leave}
 use Rattle.model.specs.Depths.{depth_in}
-use Rattle.state.specs.State.{queued_of, size_in, entries_in, queues_of, QueueRoom}
-use Rattle.mutex.specs.Parts.{place_of, MovedUp}
-use Rattle.writing.proofs.Stored.{stored}
+use Rattle.state.specs.State.{queued_of, entries_in, queues_of}
+use Rattle.state.specs.Rooms.{size_in, QueueRoom}
+use Rattle.state.proofs.Stored.{stored}
 use Rattle.model.proofs.Upd.{upd-self}
 use Rattle.model.proofs.Ports.{number-test}
 use Rattle.state.proofs.Queued.{entries-length}
-use Rattle.mutex.proofs.Queues.{part-before, part-behind, changed, room-kept}
-use Rattle.mutex.proofs.Entries.{found, join-new, join-deeper, leave_none, leave-shallower, leave-last, deeper-room}
+use Rattle.mutex.proofs.Queues.{part-before, part-behind, elem-before, changed, room-kept}
+use Rattle.mutex.proofs.Entries.{is_of, QueuedAt, Absent, queued-at, absent, join-new, join-deeper, leave_none, leave-shallower, leave-last, deeper-room}
+use Rattle.mutex.proofs.Moved.{MovedUp, moved-up}
 
 -- the queues are the model's with queue m changed, and have room
 abbrev pub Becomes : (queues after : List ℕ) → ℕ → List Queued → Type 0
 Becomes queues after m q = (queues_of after ≡ upd eqb (queues_of queues) m q) × QueueRoom after
-
--- what is behind the first k of a list's front
-behind-front : (k n : ℕ) (l : List ℕ) → drop k (take n l) ≡ take (n - k) (drop k l)
-behind-front zero n l = ap (λ (j : ℕ). take j l) (sym (sub-zero n))
-behind-front (suc k) zero l = ap (λ (j : ℕ). take j (drop (suc k) l)) (sym (zero-sub (suc k)))
-behind-front (suc k) (suc n) [] = sym (take-nil (suc n - suc k))
-behind-front (suc k) (suc n) (x ∷ l) = let less : suc n - suc k ≡ n - k = omega arith in behind-front k n l ∙ ap (λ (j : ℕ). take j (drop k l)) (sym less)
 
 module _ (queues : List ℕ) (m a : ℕ) (room : QueueRoom queues) (known : m < 8) where
   abbrev at : ℕ
@@ -74,104 +70,101 @@ module _ (queues : List ℕ) (m a : ℕ) (room : QueueRoom queues) (known : m < 
           room-kept queues m room known (set queues (at + i) v) first last n size (length-set queues (at + i) v ∙ room.long) short,
         )
 
-    module _ (i : ℕ) (place : i ≡ place_of bytes a) where
-      -- ---- an actor that is queued
+    -- the part that the code searches
+    searched : take (at + n - at) (drop at queues) ≡ bytes
+    searched = let e : at + n - at ≡ n = omega arith in ap (λ (k : ℕ). take k (drop at queues)) e
 
-      module _ (queued : i < n) where
-        in_bytes : place_of bytes a < length bytes
-        in_bytes = omega (arith, bytes-length)
+    -- ---- an actor that is queued
 
-        here_found : get_or queues (at + i) 0 ≡ found bytes a
-        here_found =
-            sym
-            (ap (λ (k : ℕ). get_or bytes k 0) (sym place)
-            ∙ get_or-take n (drop at queues) i 0 queued
-            ∙ get_or-drop at queues i 0)
+    module _ (i : ℕ) (place : Some i ≡ position (is_of a) (take (at + n - at) (drop at queues))) where
+      here : QueuedAt bytes a i
+      here = queued-at bytes a i (place ∙ ap (position (is_of a)) searched)
 
-        changed-to : (v w : ℕ) → v ≡ w → set bytes (place_of bytes a) w ≡ set bytes i v
-        changed-to v w e = ap₂ (set bytes) (sym place) (sym e)
+      queued : i < n
+      queued = omega (arith, here.inside, bytes-length)
 
-        pub deeper-fits : depth_in (join (queues_of queues m) a) a ≤ 32 → get_or queues (at + i) 0 + 8 < 256
-        deeper-fits most =
-            omega (
-              arith,
-              here_found,
-              deeper-room bytes a in_bytes (subst (λ (l : List ℕ). depth_in (join (map queued_of l) a) a ≤ 32) (sym entries-here) most),
-            )
+      -- the entry's byte
+      byte : get_or bytes i 0 ≡ get_or queues (at + i) 0
+      byte = get_or-take n (drop at queues) i 0 queued ∙ get_or-drop at queues i 0
 
-        pub deepens : Becomes queues (set queues (at + i) (get_or queues (at + i) 0 + 8)) m (join (queues_of queues m) a)
-        deepens =
-            let v : ℕ = get_or queues (at + i) 0 + 8 in
-            subst (Becomes queues (set queues (at + i) v) m)
-            (after-step join (set bytes i v)
-            (join-deeper bytes a in_bytes ∙ ap (map queued_of) (changed-to v (found bytes a + 8) (ap (λ (k : ℕ). k + 8) here_found))))
-            (rewritten i v queued)
+      pub deeper-fits : depth_in (join (queues_of queues m) a) a ≤ 32 → get_or queues (at + i) 0 + 8 < 256
+      deeper-fits most =
+          omega (arith, byte, deeper-room bytes a i here (subst (λ (l : List ℕ). depth_in (join (map queued_of l) a) a ≤ 32) (sym entries-here) most))
 
-        pub lessens : 8 ≤ get_or queues (at + i) 0 → Becomes queues (set queues (at + i) (get_or queues (at + i) 0 - 8)) m (leave (queues_of queues m) a)
-        lessens deep =
-            let v : ℕ = get_or queues (at + i) 0 - 8 in
-            subst (Becomes queues (set queues (at + i) v) m)
-            (after-step leave (set bytes i v)
-            (leave-shallower bytes a in_bytes (omega (arith, here_found))
-            ∙ ap (map queued_of) (changed-to v (found bytes a - 8) (ap (λ (k : ℕ). k - 8) here_found))))
-            (rewritten i v queued)
+      pub deepens : Becomes queues (set queues (at + i) (get_or queues (at + i) 0 + 8)) m (join (queues_of queues m) a)
+      deepens =
+          let v : ℕ = get_or queues (at + i) 0 + 8 in
+          subst (Becomes queues (set queues (at + i) v) m)
+          (after-step join (set bytes i v) (join-deeper bytes a i here ∙ ap (λ (x : ℕ). map queued_of (set bytes i (x + 8))) byte))
+          (rewritten i v queued)
 
-        -- the last Lock is undone: the entries before stay, and those behind move up
-        pub leaves : get_or queues (at + i) 0 < 8 → (after : List ℕ) → MovedUp queues after (at + i) (n - 1 - i)
-            → Becomes queues (set after (9 * m) (n - 1)) m (leave (queues_of queues m) a)
-        leaves last after c =
-            let short : n ≤ 8 = omega (arith, room.bounded m) in
-            let sum : n - 1 ≡ i + (n - 1 - i) = omega arith in
-            let less : n - suc i ≡ n - 1 - i = omega arith in
-            let next : at + i + 1 ≡ at + suc i = omega arith in
-            let kept : List ℕ = take i bytes ++ drop (suc i) bytes in
-            let front : take i (drop at after) ≡ take i bytes =
-            part-before at i (at + i) queues after (omega arith) c.before ∙ sym (take-take i n (drop at queues) (omega arith)) in
-            let tail : take (n - 1 - i) (drop i (drop at after)) ≡ drop (suc i) bytes =
-            ap (take (n - 1 - i)) (drop-drop i at after)
-            ∙ c.moved
-            ∙ ap (λ (k : ℕ). take (n - 1 - i) (drop k queues)) next
-            ∙ sym
-            (behind-front (suc i) n (drop at queues)
-            ∙ ap (λ (k : ℕ). take k (drop (suc i) (drop at queues))) less
-            ∙ ap (take (n - 1 - i)) (drop-drop (suc i) at queues)) in
-            let is : take (n - 1) (drop at after) ≡ kept =
-            ap (λ (k : ℕ). take k (drop at after)) sum ∙ take-add i (n - 1 - i) (drop at after) ∙ ap₂ (λ (l r : List ℕ). l ++ r) front tail in
-            subst (Becomes queues (set after (9 * m) (n - 1)) m)
-            (after-step leave kept
-            (leave-last bytes a in_bytes (omega (arith, here_found))
-            ∙ ap (λ (k : ℕ). map queued_of (take k bytes ++ drop (suc k) bytes)) (sym place)))
-            (becomes after (n - 1) kept c.long (omega arith)
-            (part-before 0 (9 * m) (at + i) queues after (omega arith) c.before)
-            (part-behind (9 * m + 9) (at + i + (n - 1 - i)) queues after (omega arith) c.behind)
-            is)
+      pub lessens : 8 ≤ get_or queues (at + i) 0 → Becomes queues (set queues (at + i) (get_or queues (at + i) 0 - 8)) m (leave (queues_of queues m) a)
+      lessens deep =
+          let v : ℕ = get_or queues (at + i) 0 - 8 in
+          subst (Becomes queues (set queues (at + i) v) m)
+          (after-step leave (set bytes i v)
+          (leave-shallower bytes a i here (omega (arith, byte)) ∙ ap (λ (x : ℕ). map queued_of (set bytes i (x - 8))) byte))
+          (rewritten i v queued)
 
-      -- ---- one that is not
+      -- the last Lock is undone: the entries before stay, and those behind move up
+      pub leaves : get_or queues (at + i) 0 < 8 → (after : List ℕ) → after ≡ copy_within queues (at + i + 1) (at + n) (at + i)
+          → Becomes queues (set after (9 * m) (get_or after (9 * m) 0 - 1)) m (leave (queues_of queues m) a)
+      leaves last after moves =
+          let before_end : i < n = queued in
+          let short : n ≤ 8 = omega (arith, room.bounded m) in
+          let k : ℕ = at + n - (at + i + 1) in
+          let c : MovedUp queues after (at + i) k = subst (λ (l : List ℕ). MovedUp queues l (at + i) k) (sym moves) (moved-up queues (at + i) k (omega (arith, room.long))) in
+          let sum : n - 1 ≡ i + k = omega arith in
+          let less : n ≡ suc i + k = omega arith in
+          let next : at + i + 1 ≡ at + suc i = omega arith in
+          let size : get_or after (9 * m) 0 - 1 ≡ n - 1 = omega (arith, elem-before (9 * m) (at + i) queues after (omega arith) c.before) in
+          let kept : List ℕ = take i bytes ++ drop (suc i) bytes in
+          let front : take i (drop at after) ≡ take i bytes =
+          part-before at i (at + i) queues after (omega arith) c.before ∙ sym (take-take i n (drop at queues) (omega arith)) in
+          let tail : take k (drop i (drop at after)) ≡ drop (suc i) bytes =
+          ap (take k) (drop-drop i at after)
+          ∙ c.moved
+          ∙ ap (λ (j : ℕ). take k (drop j queues)) next
+          ∙ sym (ap (λ (j : ℕ). drop (suc i) (take j (drop at queues))) less ∙ drop-take (suc i) k (drop at queues) ∙ ap (take k) (drop-drop (suc i) at queues)) in
+          let is : take (n - 1) (drop at after) ≡ kept =
+          ap (λ (j : ℕ). take j (drop at after)) sum ∙ take-add i k (drop at after) ∙ ap₂ (λ (l r : List ℕ). l ++ r) front tail in
+          subst (λ (j : ℕ). Becomes queues (set after (9 * m) j) m (leave (queues_of queues m) a)) (sym size)
+          (subst (Becomes queues (set after (9 * m) (n - 1)) m)
+          (after-step leave kept (leave-last bytes a i here (omega (arith, byte))))
+          (becomes after (n - 1) kept (c.long ∙ room.long) (omega arith)
+          (part-before 0 (9 * m) (at + i) queues after (omega arith) c.before)
+          (part-behind (9 * m + 9) (at + i + k) queues after (omega arith) c.behind)
+          is))
 
-      module _ (absent : n ≤ i) where
-        past_bytes : length bytes ≤ place_of bytes a
-        past_bytes = omega (arith, bytes-length)
+    -- ---- one that is not
 
-        pub stays : Becomes queues queues m (leave (queues_of queues m) a)
-        stays =
-            let same : leave (queues_of queues m) a ≡ queues_of queues m =
-            sym (after-step leave bytes (leave_none bytes a past_bytes)) ∙ ap (map queued_of) entries-here in
-            (sym (upd-self number-test (queues_of queues) m (leave (queues_of queues m) a) (sym same)), room)
+    module _ (place : None ≡ position (is_of a) (take (at + n - at) (drop at queues))) where
+      gone : Absent bytes a
+      gone = absent bytes a (place ∙ ap (position (is_of a)) searched)
 
-        module _ (small : a < 8) (fits : length (join (queues_of queues m) a) ≤ 8) where
-          joins-end : map queued_of (bytes ++ (a ∷ [])) ≡ join (queues_of queues m) a
-          joins-end = after-step join (bytes ++ (a ∷ [])) (join-new bytes a small past_bytes)
+      pub stays : Becomes queues queues m (leave (queues_of queues m) a)
+      stays =
+          let same : leave (queues_of queues m) a ≡ queues_of queues m =
+          sym (after-step leave bytes (leave_none bytes a gone)) ∙ ap (map queued_of) entries-here in
+          (sym (upd-self number-test (queues_of queues) m (leave (queues_of queues m) a) (sym same)), room)
 
-          -- there is room for one more
-          pub one_more : n + 1 ≤ 8
-          one_more =
-              omega (arith, ap length joins-end, length-map (bytes ++ (a ∷ [])) queued_of, length-append bytes (a ∷ []), bytes-length)
+      module _ (small : a < 8) (fits : length (join (queues_of queues m) a) ≤ 8) where
+        joins-end : map queued_of (bytes ++ (a ∷ [])) ≡ join (queues_of queues m) a
+        joins-end = after-step join (bytes ++ (a ∷ [])) (join-new bytes a small gone)
 
-          pub enters : Becomes queues (set (set queues (at + n) a) (9 * m) (n + 1)) m (join (queues_of queues m) a)
-          enters =
-              let more : n + 1 ≤ 8 = one_more in
-              subst (Becomes queues (set (set queues (at + n) a) (9 * m) (n + 1)) m) joins-end
-              (becomes (set queues (at + n) a) (n + 1) (bytes ++ (a ∷ [])) (length-set queues (at + n) a ∙ room.long) more
-              (take-set-le (9 * m) queues (at + n) a (omega arith))
-              (drop-set-lt (9 * m + 9) queues (at + n) a (omega arith))
-              (stored queues at n a (omega (arith, room.long))))
+        -- there is room for one more
+        pub one_more : n + 1 ≤ 8
+        one_more =
+            omega (arith, ap length joins-end, length-map (bytes ++ (a ∷ [])) queued_of, length-append bytes (a ∷ []), bytes-length)
+
+        pub enters : let longer = set queues (at + n) a in Becomes queues (set longer (9 * m) (get_or longer (9 * m) 0 + 1)) m (join (queues_of queues m) a)
+        enters =
+            let more : n + 1 ≤ 8 = one_more in
+            let longer : List ℕ = set queues (at + n) a in
+            let size : get_or longer (9 * m) 0 + 1 ≡ n + 1 = omega (arith, get_or-set_other queues (at + n) (9 * m) a 0 (omega arith)) in
+            subst (λ (j : ℕ). Becomes queues (set longer (9 * m) j) m (join (queues_of queues m) a)) (sym size)
+            (subst (Becomes queues (set longer (9 * m) (n + 1)) m) joins-end
+            (becomes longer (n + 1) (bytes ++ (a ∷ [])) (length-set queues (at + n) a ∙ room.long) more
+            (take-set-le (9 * m) queues (at + n) a (omega arith))
+            (drop-set-lt (9 * m + 9) queues (at + n) a (omega arith))
+            (stored queues at n a (omega (arith, room.long)))))

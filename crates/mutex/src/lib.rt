@@ -1,98 +1,66 @@
 // The mutexes' queues: Lock joins a queue's end or adds to a depth, Unlock takes off a depth or leaves, and the first in the queue owns the mutex.
 #![tactic(auto)]
 
-ghost use Rattle.std.specs.Prelude.{◌≡◌, ◌+◌, ◌<◌, ◌≤◌, eqb, length, take, drop};
+ghost use Rattle.std.specs.Prelude.{◌≡◌, ◌%◌, ◌<◌, ◌≤◌, eqb, length, position};
 ghost use Rattle.model.specs.Site.{upd};
 ghost use Rattle.model.specs.Mutex.{owns, join as joined, leave as left};
 ghost use Rattle.model.specs.Depths.{depth_in};
-ghost use Rattle.state.specs.State.{queues_of, QueueRoom};
-ghost use Rattle.mutex.specs.Parts.{place_of, MovedUp};
+ghost use Rattle.state.specs.State.{queues_of};
 
-use table::bytes;
+use state::Queues;
 
 // Lock: a queued actor's depth rises by 1; an actor that is not queued joins the end, with depth 1.
-pub fn join(queues: &mut [u8; 72], m: usize, a: usize)
-    requires { QueueRoom queues.old × (m < 8) × (a < 8)
-        × (length (joined (queues_of queues.old m) a) ≤ 8) × (depth_in (joined (queues_of queues.old m) a) a ≤ 32) }
-    ensures { (queues_of queues.new
-        ≡ upd eqb (queues_of queues.old) m (joined (queues_of queues.old m) a))
-        × QueueRoom queues.new }
+pub fn join(queues: &mut Queues, m: usize, a: usize)
+    requires { (m < 8) × (a < 8)
+        × (length (joined (queues_of queues.old.bytes m) a) ≤ 8) × (depth_in (joined (queues_of queues.old.bytes m) a) a ≤ 32) }
+    ensures { queues_of queues.new.bytes ≡ upd eqb (queues_of queues.old.bytes) m (joined (queues_of queues.old.bytes m) a) }
 {
+    let bytes = &mut queues.bytes;
     let size = 9 * m;
     let at = size + 1;
-    let n = bytes::wide(queues[size]);
-    let actor = a as u8;
-    let i = place(queues, at, n, actor);
-    if i < n {
-        let b = queues[at + i];
-        queues[at + i] = b + 8;
-        return;
+    let n = usize::from(bytes[size]);
+    match place(&bytes[at..at + n], a) {
+        Some(i) => bytes[at + i] += 8,
+        None => {
+            bytes[at + n] = a as u8;
+            bytes[size] += 1;
+        }
     }
-    queues[at + n] = actor;
-    queues[size] = (n + 1) as u8;
 }
 
 // Unlock: a queued actor's depth falls by 1, owner or not; at 0 it leaves, and those behind it move up.
-pub fn leave(queues: &mut [u8; 72], m: usize, a: usize)
-    requires { QueueRoom queues.old × (m < 8) × (a < 8) }
-    ensures { (queues_of queues.new
-        ≡ upd eqb (queues_of queues.old) m (left (queues_of queues.old m) a))
-        × QueueRoom queues.new }
+pub fn leave(queues: &mut Queues, m: usize, a: usize)
+    requires { (m < 8) × (a < 8) }
+    ensures { queues_of queues.new.bytes ≡ upd eqb (queues_of queues.old.bytes) m (left (queues_of queues.old.bytes m) a) }
 {
+    let bytes = &mut queues.bytes;
     let size = 9 * m;
     let at = size + 1;
-    let n = bytes::wide(queues[size]);
-    let i = place(queues, at, n, a as u8);
-    if n <= i {
+    let n = usize::from(bytes[size]);
+    let Some(i) = place(&bytes[at..at + n], a) else {
+        return;
+    };
+    if 8 <= bytes[at + i] {
+        bytes[at + i] -= 8;
         return;
     }
-    let b = queues[at + i];
-    if 8 <= b {
-        queues[at + i] = b - 8;
-        return;
-    }
-    move_up(queues, at + i, n - 1 - i);
-    queues[size] = (n - 1) as u8;
+    bytes.copy_within(at + i + 1..at + n, at + i);
+    bytes[size] -= 1;
 }
 
 // Whether an actor owns a mutex: whether it is the first in its queue.
-pub fn owner(queues: &[u8; 72], m: usize, a: usize) -> bool
-    requires { QueueRoom queues.now × (m < 8) }
-    ensures { result ≡ owns (queues_of queues.now m) a }
+pub fn owner(queues: &Queues, m: usize, a: usize) -> bool
+    requires { m < 8 }
+    ensures { result ≡ owns (queues_of queues.now.bytes m) a }
 {
+    let bytes = &queues.bytes;
     let size = 9 * m;
-    if queues[size] == 0 {
-        return false;
-    }
-    let first = bytes::wide(queues[size + 1] % 8);
-    a == first
+    bytes[size] != 0 && a == usize::from(bytes[size + 1] % 8)
 }
 
-// The place of an actor's entry among the n from `at`; n where it has none.
-fn place(queues: &[u8; 72], at: usize, n: usize, actor: u8) -> usize
-    requires { (length queues.now ≡ 72) × (at + n ≤ 72) }
-    ensures { result ≡ place_of (take n (drop at queues.now)) actor }
+// The place of an actor's entry in a queue.
+fn place(entries: &[u8], a: usize) -> Option<usize>
+    ensures { result ≡ position (λ b. eqb a (b % 8)) entries.now }
 {
-    let mut i = 0;
-    while i < n {
-        let b = queues[at + i];
-        if actor == b % 8 {
-            return i;
-        }
-        i += 1;
-    }
-    i
-}
-
-// The n bytes behind `from` move up by one.
-fn move_up(queues: &mut [u8; 72], from: usize, n: usize)
-    requires { (length queues.old ≡ 72) × (from + n < 72) }
-    ensures { MovedUp queues.old queues.new from n }
-{
-    let mut i = 0;
-    while i < n {
-        let b = queues[from + i + 1];
-        queues[from + i] = b;
-        i += 1;
-    }
+    entries.iter().position(|b| a == usize::from(*b % 8))
 }

@@ -26,7 +26,7 @@ each-taken P (suc c) (k ∷ l) h = (h zero (suc-le-suc zero-le), each-taken P c 
 
 -- is right, where each place has a right one
 pub each-listed : (P : ℕ → Type 0) (l : Numbers) → Listing P l → Each P (listed l)
-each-listed P l h = each-taken P l.count (l.n0 ∷ l.n1 ∷ l.n2 ∷ l.n3 ∷ []) h.right
+each-listed P l h = each-taken P l.count l.all h.right
 
 pub each_map : {P Q : ℕ → Type 0} → ((k : ℕ) → P k → Q k) → (l : List ℕ) → Each P l → Each Q l
 each_map f [] e = tt
@@ -39,8 +39,8 @@ each_at P (suc c) zero (x ∷ l) e h k = e.0
 each_at P (suc c) (suc i) (x ∷ l) e h k = each_at P c i l e.1 (le_of_suc-le-suc h) (le_of_suc-le-suc k)
 
 -- so the number at a place that the list has is right
-pub listed_at : (P : ℕ → Type 0) (l : Numbers) (i : ℕ) → Each P (listed l) → i < 4 → i < l.count → P (number l i)
-listed_at P l i e k h = each_at P l.count i (l.n0 ∷ l.n1 ∷ l.n2 ∷ l.n3 ∷ []) e h k
+pub listed_at : (P : ℕ → Type 0) (l : Numbers) (i : ℕ) → Each P (listed l) → i < l.count → i < length l.all → P (number l i)
+listed_at P l i e h k = each_at P l.count i l.all e h k
 
 -- a list names a number when some number in it is that one
 pub has-any : (l : List ℕ) (m : ℕ) → has l m ≡ any_of (eqb m) l

@@ -18,7 +18,7 @@ use c_answers::{OrderCheck, OrderLength, OrderPair, OrderReady, OrderRemainder, 
 pub extern "C" fn order_check(table: &[u8]) -> OrderCheck
     ensures { result ≡ check_fields (read_of table.now) }
 {
-    c_answers::check(reader::read(table))
+    reader::read(table).into()
 }
 
 // Runs a schedule from a fresh site and writes the state report of its end.
@@ -27,7 +27,7 @@ pub extern "C" fn order_run(table: &[u8], schedule: &[u8], report: &mut [u8]) ->
     ensures answer { result ≡ length_fields (run_of table.now schedule.now report.old).result }
     ensures lent { report.new ≡ (run_of table.now schedule.now report.old).lent }
 {
-    c_answers::length(order::run(table, schedule, report))
+    order::run(table, schedule, report).into()
 }
 
 // Runs a schedule from a fresh site and lays out the page of its end.
@@ -36,7 +36,7 @@ pub extern "C" fn order_page(table: &[u8], schedule: &[u8], buffer: &mut [u8]) -
     ensures answer { result ≡ length_fields (page_of table.now schedule.now buffer.old).result }
     ensures lent { buffer.new ≡ (page_of table.now schedule.now buffer.old).lent }
 {
-    c_answers::length(order::page(table, schedule, buffer))
+    order::page(table, schedule, buffer).into()
 }
 
 // Which actors are ready at the end of a schedule from a fresh site.
@@ -44,7 +44,7 @@ pub extern "C" fn order_page(table: &[u8], schedule: &[u8], buffer: &mut [u8]) -
 pub extern "C" fn order_ready(table: &[u8], schedule: &[u8]) -> OrderReady
     ensures { result ≡ ready_fields (ready_of table.now schedule.now) }
 {
-    c_answers::ready(order::ready(table, schedule))
+    order::ready(table, schedule).into()
 }
 
 // Whether two steps, by their names, are dependent.
@@ -58,7 +58,7 @@ pub extern "C" fn order_pair(
 ) -> OrderPair
     ensures { result ≡ pair_fields (pair_of table.now (name actor action) (name actor2 action2)) }
 {
-    c_answers::pair(order::pair(table, actor, action, actor2, action2))
+    order::pair(table, actor, action, actor2, action2).into()
 }
 
 // Whether two schedules are the same, and how many pairs of steps were compared.
@@ -66,7 +66,7 @@ pub extern "C" fn order_pair(
 pub extern "C" fn order_same(table: &[u8], first: &[u8], second: &[u8]) -> OrderSame
     ensures { result ≡ same_fields (comparison_of table.now first.now second.now) }
 {
-    c_answers::same(order::same(table, first, second))
+    order::same(table, first, second).into()
 }
 
 // Whether two recordings are the same as far as both reach, and how many pairs of those steps were compared.
@@ -74,7 +74,7 @@ pub extern "C" fn order_same(table: &[u8], first: &[u8], second: &[u8]) -> Order
 pub extern "C" fn order_prefix(table: &[u8], first: &[u8], second: &[u8]) -> OrderSame
     ensures { result ≡ same_fields (prefix_comparison_of table.now first.now second.now) }
 {
-    c_answers::same(order::prefix(table, first, second))
+    order::prefix(table, first, second).into()
 }
 
 // Which part of which recording is the remainder of the longer: as long as what `remainder` hands
@@ -86,18 +86,20 @@ pub extern "C" fn order_remainder<'a>(first: &'a [u8], second: &'a [u8]) -> Orde
     let length = order::remainder(first, second).len();
     if first.len() < second.len() {
         let from = second.len() - length;
-        c_answers::remainder(Part {
+        Part {
             recording: Recording::Second,
             from,
             length,
-        })
+        }
+        .into()
     } else {
         let from = first.len() - length;
-        c_answers::remainder(Part {
+        Part {
             recording: Recording::First,
             from,
             length,
-        })
+        }
+        .into()
     }
 }
 
@@ -107,7 +109,7 @@ pub extern "C" fn order_draw(table: &[u8], seed: u32, schedule: &mut [u8]) -> Or
     ensures answer { result ≡ length_fields (draw_of table.now seed schedule.old).result }
     ensures lent { schedule.new ≡ (draw_of table.now seed schedule.old).lent }
 {
-    c_answers::length(order::draw(table, seed, schedule))
+    order::draw(table, seed, schedule).into()
 }
 
 // Writes a route from the first schedule to the second: a chain of exchanges, each by its position.
@@ -120,5 +122,5 @@ pub extern "C" fn order_route(
 ) -> OrderLength
     ensures { RightFields table.now first.now second.now route.old route.new result }
 {
-    c_answers::length(order::route(table, first, second, route))
+    order::route(table, first, second, route).into()
 }

@@ -1,4 +1,4 @@
--- The page over the engine's arrays: an actor's line by its record, and that the ports' logs and the journal play no part.
+-- The page over the engine's arrays: an actor's line by its record.
 -- Assumes nothing.
 use mathlib.Core.Path.{◌≡◌, refl, ◌∙◌, ap, sym}
 use mathlib.Core.Bool.{cond}
@@ -14,38 +14,26 @@ use Rattle.model.specs.Page.{Status, finished, step_status, status_of, actor_tex
 use Rattle.model.proofs.Parts.{parts_same}
 use Rattle.state.specs.declared.Actor.{Actor}
 use Rattle.state.specs.State.{record_of, records_of, site_of, fresh_actor}
-use Rattle.readiness.specs.Parts.{site_with}
+use Rattle.state.specs.declared.arrays.Site.{Site as Arrays}
 use Rattle.readiness.proofs.Laws.{step-looks}
-use Rattle.page.specs.Parts.{status_from, page_from}
+use Rattle.page.specs.Parts.{status_from, line_at}
 
 -- an actor's status, by its record
-module _ (table : List ℕ) (actors : List Actor) (comms queues : List ℕ) where
-  pub status-from : (log ends journal : List ℕ) (a : ℕ)
-      → status_of table (site_with actors comms queues log ends journal) a ≡ status_from table a (get_or actors a fresh_actor) comms queues
-  status-from log ends journal a =
+module _ (table : List ℕ) (actors : List Actor) (site : Arrays) where
+  pub status-from : (a : ℕ) → status_of table (site_of actors site) a ≡ status_from table a (get_or actors a fresh_actor) site
+  status-from a =
       ap (λ (t : NextStep). cond (ltb (get_or actors a fresh_actor).position (count_of table a)) (step_status t) finished)
-      (step-looks table actors comms queues log ends journal [] [] a)
-
-  -- the page of the whole state
-  pub page-from : (log ends journal : List ℕ) → page table (site_of actors comms log ends queues journal) ≡ page_from table actors comms queues
-  unfolding page
-  page-from log ends journal =
-      parts_same _ _ (actors_of table) 0
-      (λ a l h.
-      ap (λ (t : Status). line (actor_text a (records_of actors a) t))
-      (status-from log ends journal a ∙ sym (status-from [] [] [] a)))
+      (step-looks table actors site a)
 
   -- line by line
-  abbrev pub line_from : ℕ → List ℕ
-  line_from a = line (actor_text a (records_of actors a) (status_of table (site_with actors comms queues [] [] []) a))
-
-  pub page-lines : page_from table actors comms queues ≡ parts line_from (actors_of table) 0
-  unfolding page
+  pub page-lines : page table (site_of actors site) ≡ parts (line_at table actors site) (actors_of table) 0
+  unfolding page line_at
   page-lines = refl
 
-  pub line-from : (a : ℕ) (r : Actor) → r ≡ get_or actors a fresh_actor → (t : Status) → t ≡ status_from table a r comms queues
-      → line (actor_text a (record_of r) t) ≡ line_from a
+  pub line-from : (a : ℕ) (r : Actor) → r ≡ get_or actors a fresh_actor → (t : Status) → t ≡ status_from table a r site
+      → line (actor_text a (record_of r) t) ≡ line_at table actors site a
+  unfolding line_at
   line-from a r same t status =
-      let right : t ≡ status_of table (site_with actors comms queues [] [] []) a =
-      status ∙ ap (λ (x : Actor). status_from table a x comms queues) same ∙ sym (status-from [] [] [] a) in
+      let right : t ≡ status_of table (site_of actors site) a =
+      status ∙ ap (λ (x : Actor). status_from table a x site) same ∙ sym (status-from a) in
       λ i. line (actor_text a (record_of (same i)) (right i))

@@ -3,14 +3,16 @@
 #![tactic(auto)]
 
 ghost use Rattle.std.specs.Prelude.{◌≡◌, ◌∷◌, ◌<◌, ◌≤◌, length};
+ghost use Rattle.model.specs.Report.{parts};
 ghost use Rattle.model.specs.Text.{space, left, line};
-ghost use Rattle.model.specs.Page.{status_word, cells_text, actor_text};
-ghost use Rattle.state.specs.State.{record_of};
-ghost use Rattle.readiness.specs.Parts.{Looked};
+ghost use Rattle.model.specs.Page.{status_word, cells_text, actor_text, page};
+ghost use Rattle.state.specs.State.{record_of, site_of, Positions};
+ghost use Rattle.table.specs.Format.{actors_of};
+ghost use Rattle.readiness.specs.Parts.{Answerable, Looked};
 ghost use Rattle.writing.specs.Written.{Wrote};
-ghost use Rattle.page.specs.Parts.{status_as, status_from, page_from, Pageable};
+ghost use Rattle.page.specs.Parts.{status_as, status_from, line_at, Pageable};
 
-use state::{Actor, NextStep};
+use state::{Actor, Hold, Site};
 use table::access;
 
 // How an actor stands.
@@ -22,43 +24,62 @@ pub enum Status {
     Finished,
 }
 
-// Lays the page out.
-pub fn write(
-    table: &[u8],
-    actors: [Actor; 8],
-    comms: &[u64; 256],
-    queues: &[u8; 72],
-    buf: &mut [u8],
-) -> usize
-    requires { Pageable table.now actors comms.now queues.now buf.old }
-    ensures { Wrote buf.old (page_from table.now actors comms.now queues.now) buf.new result }
-{
-    let n = access::actors(table);
-    let mut at = 0;
-    let mut a = 0;
-    while a < n {
-        let r = actors[a];
-        let status = status_of(table, a, r, comms, queues);
-        at += actor_line(a, r, status, &mut buf[at..]);
-        a += 1;
+impl Status {
+    ghost use Rattle.page.specs.Parts.{status_as};
+
+    // A space, and the status at the left of eight columns.
+    fn word(self) -> &'static [u8]
+        ensures { result.now ≡ space ∷ left 8 (status_word (status_as self)) }
+    {
+        match self {
+            Status::Ready => b" ready   ",
+            Status::Waits => b" waits   ",
+            Status::Over => b" over    ",
+            Status::Finished => b" finished",
+        }
     }
-    at
+}
+
+// Lays the page out.
+pub fn write(table: &[u8], actors: [Actor; 8], site: &Site, buf: &mut [u8]) -> usize
+    requires { Pageable table.now actors site.now buf.old }
+    ensures { Wrote buf.old (page table.now (site_of actors site.now)) buf.new result }
+{
+    lines(table, &actors, access::actors(table), site, buf)
+}
+
+// The lines of so many actors.
+fn lines(table: &[u8], actors: &[Actor; 8], count: usize, site: &Site, buf: &mut [u8]) -> usize
+    requires { Answerable table.now actors.now × Positions actors.now × (count ≤ actors_of table.now)
+        × (length (parts (line_at table.now actors.now site.now) count 0) ≤ length buf.old) }
+    ensures { Wrote buf.old (parts (line_at table.now actors.now site.now) count 0) buf.new result }
+{
+    writing::each(count, |a, buf| actor_part(table, actors, a, site, buf), buf)
+}
+
+// The line of one actor.
+fn actor_part(table: &[u8], actors: &[Actor; 8], a: usize, site: &Site, buf: &mut [u8]) -> usize
+    requires { Answerable table.now actors.now × Positions actors.now × (a < actors_of table.now)
+        × (length (line_at table.now actors.now site.now a) ≤ length buf.old) }
+    ensures { Wrote buf.old (line_at table.now actors.now site.now a) buf.new result }
+{
+    let r = actors[a];
+    let status = status_of(table, a, r, site);
+    actor_line(a, r, status, buf)
 }
 
 // An actor is finished, or stands as its next step does.
-fn status_of(table: &[u8], a: usize, r: Actor, comms: &[u64; 256], queues: &[u8; 72]) -> Status
-    requires { Looked table.now a r comms.now queues.now }
-    ensures { status_as result ≡ status_from table.now a r comms.now queues.now }
+fn status_of(table: &[u8], a: usize, r: Actor, site: &Site) -> Status
+    requires { Looked table.now a }
+    ensures { status_as result ≡ status_from table.now a r site.now }
 {
-    let k = r.position;
-    if access::actions(table, a) <= k {
+    if access::actions(table, a) <= r.position {
         return Status::Finished;
     }
-    let next = readiness::next_step(table, a, r, comms, queues);
-    match next {
-        NextStep::Taken => Status::Ready,
-        NextStep::Waits => Status::Waits,
-        NextStep::Over => Status::Over,
+    match readiness::next_step(table, a, r, site) {
+        Ok(()) => Status::Ready,
+        Err(Hold::Waits) => Status::Waits,
+        Err(Hold::Over) => Status::Over,
     }
 }
 
@@ -67,27 +88,12 @@ fn actor_line(a: usize, r: Actor, status: Status, buf: &mut [u8]) -> usize
     requires { (a < 8) × (r.position < 256) × (length (line (actor_text a (record_of r) (status_as status))) ≤ length buf.old) }
     ensures { Wrote buf.old (line (actor_text a (record_of r) (status_as status))) buf.new result }
 {
-    let position = r.position;
-    let cells = r.cells;
     let number = text::right(1, a as u32, buf);
-    let word = number + text::column(b" ", 2, position as u32, &mut buf[number..]);
-    let first = word + status_part(status, &mut buf[word..]);
-    let end = first + cells_part(cells, &mut buf[first..]);
+    let word = number + text::column(b" ", 2, r.position as u32, &mut buf[number..]);
+    let first = word + writing::put(status.word(), &mut buf[word..]);
+    let end = first + cells_part(r.cells, &mut buf[first..]);
     buf[end] = b'\n';
     end + 1
-}
-
-// A space, and the status at the left of eight columns.
-fn status_part(status: Status, buf: &mut [u8]) -> usize
-    requires { 9 ≤ length buf.old }
-    ensures { Wrote buf.old (space ∷ left 8 (status_word (status_as status))) buf.new result }
-{
-    match status {
-        Status::Ready => text::put(b" ready   ", buf),
-        Status::Waits => text::put(b" waits   ", buf),
-        Status::Over => text::put(b" over    ", buf),
-        Status::Finished => text::put(b" finished", buf),
-    }
 }
 
 // Each cell after a space, at the right of ten columns.
@@ -95,12 +101,5 @@ fn cells_part(cells: [u32; 8], buf: &mut [u8]) -> usize
     requires { length (cells_text cells) ≤ length buf.old }
     ensures { Wrote buf.old (cells_text cells) buf.new result }
 {
-    let mut at = 0;
-    let mut c = 0;
-    while c < 8 {
-        let x = cells[c];
-        at += text::ten_columns(x, &mut buf[at..]);
-        c += 1;
-    }
-    at
+    writing::each(8, |c, buf| text::ten_columns(cells[c], buf), buf)
 }

@@ -6,31 +6,32 @@ ghost use Rattle.model.specs.Calls.{in_table, pair_of};
 ghost use Rattle.model.specs.Site.{name};
 ghost use Rattle.answers.specs.Answers.{pair_result};
 
-use answers::{PairAnswer, Refusal};
-use table::Reading;
+use answers::{PairVerdict, Refusal};
+use table::access;
 
 // Whether two steps, by their names, are dependent.
-pub fn pair(table: &[u8], actor: u8, action: u8, actor2: u8, action2: u8) -> PairAnswer
+pub fn pair(
+    table: &[u8],
+    actor: u8,
+    action: u8,
+    actor2: u8,
+    action2: u8,
+) -> Result<PairVerdict, Refusal>
     ensures { pair_result result ≡ pair_of table.now (name actor action) (name actor2 action2) }
 {
-    let reading = reader::read(table);
-    let Reading::Valid = reading else {
-        return PairAnswer::Refused(Refusal::Table(reading));
-    };
-    let a = actor as usize;
-    let k = action as usize;
-    let b = actor2 as usize;
-    let l = action2 as usize;
+    reader::read(table)?;
+    let (a, k) = (usize::from(actor), usize::from(action));
+    let (b, l) = (usize::from(actor2), usize::from(action2));
     if !stands(table, a, k) {
-        return PairAnswer::Refused(Refusal::NoStep);
+        return Err(Refusal::NoStep);
     }
     if !stands(table, b, l) {
-        return PairAnswer::Refused(Refusal::NoStep);
+        return Err(Refusal::NoStep);
     }
     if dependence::dependent(table, a, k, b, l) {
-        PairAnswer::Dependent
+        Ok(PairVerdict::Dependent)
     } else {
-        PairAnswer::Independent
+        Ok(PairVerdict::Independent)
     }
 }
 
@@ -38,8 +39,5 @@ pub fn pair(table: &[u8], actor: u8, action: u8, actor2: u8, action2: u8) -> Pai
 fn stands(table: &[u8], actor: usize, action: usize) -> bool
     ensures { result ≡ in_table table.now (name actor action) }
 {
-    if table::access::actors(table) <= actor {
-        return false;
-    }
-    action < table::access::actions(table, actor)
+    actor < access::actors(table) && action < access::actions(table, actor)
 }

@@ -1,34 +1,27 @@
 -- The begin and the end of a schedule's run: empty arrays hold a fresh site, and after the last entry the arrays hold the end state.
 -- Assumes nothing.
-use mathlib.Core.Path.{◌≡◌, refl, ◌∙◌, ap, sym, subst, fun_ext}
+use mathlib.Core.Path.{◌≡◌, refl, ◌∙◌, ap, sym, fun_ext}
 use mathlib.Core.Bool.{Bool, true, false, cond}
 use mathlib.Core.List.{List, [], map}
-use Prim.Native.Nat.{ℕ, zero, suc, ◌+◌, ◌*◌, ◌^◌, ◌<◌, ◌≤◌}
+use Prim.Native.Nat.{ℕ, ◌+◌, ◌*◌, ◌≤◌}
 use native.Mathlib.Omega.{arith}
-use lib.Dec.{ltb, lit<}
+use lib.Dec.{ltb}
 use lib.ListN.{length, get_or, take, drop, replicate, length-replicate}
 use lib.Seq.{take-length}
-use Rattle.table.specs.Outcome.{accepted as fine}
 use Rattle.table.specs.Promise.{WellFormed}
 use Rattle.trace.specs.Machine.{Name}
 use Rattle.trace.specs.Schedule.{accepted, names}
 use Rattle.model.specs.Site.{Port, unposted, initial}
-use Rattle.model.specs.Schedule.{machine, end_state, RefusalNumbers, check_schedule}
+use Rattle.model.specs.Schedule.{machine, end_state}
 use Rattle.model.proofs.Checks.{taken-checks}
 use Rattle.model.proofs.ReportBound.{entries-room}
 use Rattle.names.specs.InByte.{name_of}
-use Rattle.state.specs.State.{record_of, records_of, fresh_actor, comm_of, comms_of, waiting_of, queued_of, queues_of, entry_of, number_noted, journal_of, site_of, port_number}
-use Rattle.play.specs.Parts.{Empty, Ended}
+use Rattle.state.specs.declared.arrays.Site.{Site as Arrays}
+use Rattle.state.proofs.Fresh.{get_or-alike, zeros}
+use Rattle.state.specs.State.{record_of, records_of, fresh_actor, comm_of, comms_of, waiting_of, queued_of, queues_of, entry_of, site_of, Empty, port_number}
+use Rattle.play.specs.Parts.{Through}
 use Rattle.state.specs.declared.Actor.{Actor}
 use Rattle.play.proofs.Playing.{Playing, Named}
-
-pub get_or-alike : {A : Type 0} (n i : ℕ) (x : A) → get_or (replicate n x) i x ≡ x
-get_or-alike zero i x = refl
-get_or-alike (suc n) zero x = refl
-get_or-alike (suc n) (suc i) x = get_or-alike n i x
-
-abbrev zeros : ℕ → List ℕ
-zeros n = replicate n 0
 
 fresh-records : records_of (replicate 8 fresh_actor) ≡ (λ a. record_of fresh_actor)
 fresh-records = fun_ext (λ a. ap record_of (get_or-alike 8 a fresh_actor))
@@ -57,58 +50,38 @@ fresh-queues = fun_ext each
     each : (m : ℕ) → queues_of (zeros 72) m ≡ []
     each m = ap (λ (n : ℕ). map queued_of (take n (drop (9 * m + 1) (zeros 72)))) (get_or-alike {A = ℕ} 72 (9 * m) 0)
 
-fresh-journal : (journal : List ℕ) → number_noted journal ≡ 0 → journal_of journal ≡ []
-fresh-journal journal e = ap (λ (n : ℕ). map entry_of (take n (drop 1 journal))) e
-
-fresh-site : (log journal : List ℕ) → number_noted journal ≡ 0 → site_of (replicate 8 fresh_actor) (zeros 256) log (zeros 32) (zeros 72) journal ≡ initial
+fresh-site : (arrays : Arrays) → Empty arrays → site_of (replicate 8 fresh_actor) arrays ≡ initial
 unfolding initial
-fresh-site log journal e =
+fresh-site arrays z =
     λ i. record {
       actor = fresh-records i;
-      mail = record { comm = fresh-comms i; waiting = fresh-waiting log i };
-      queue = fresh-queues i;
-      journal = fresh-journal journal e i;
-    }
-
-start-empty : (table schedule log journal : List ℕ) → WellFormed table → length log ≡ 4096 → length journal ≡ 257 → number_noted journal ≡ 0
-    → Playing table schedule (zeros 256) log (zeros 32) (zeros 72) journal (replicate 8 fresh_actor) 0
-start-empty table schedule log journal ok log-long journal-long none =
-    record {
-      accepted-table = ok;
-      site = fresh-site log journal none;
-      taken = refl;
-      index = omega arith;
-      actors-long = length-replicate 8 fresh_actor;
-      eight = λ a. ap (λ (r : Actor). length r.cells) (get_or-alike 8 a fresh_actor) ∙ length-replicate {A = ℕ} 8 0;
-      mail-room = record {
-        comms-room = record {
-          long = length-replicate {A = ℕ} 256 0;
-          valued = λ j. subst (λ (c : ℕ). c < 2 ^ 42) (sym (get_or-alike {A = ℕ} 256 j 0)) (lit< tt);
-        };
-        log-room = record {
-          log-long = log-long;
-          ends-long = length-replicate {A = ℕ} 32 0;
-          ordered = λ n. omega (arith, get_or-alike {A = ℕ} 32 (2 * n) 0);
-          bounded = λ n. omega (arith, get_or-alike {A = ℕ} 32 (2 * n + 1) 0);
-        };
+      mail = record {
+        comm = (ap comms_of z.comms-fresh ∙ fresh-comms) i;
+        waiting = (ap (waiting_of arrays.mail.log) z.ends_fresh ∙ fresh-waiting arrays.mail.log) i;
       };
-      queue-room = record { long = length-replicate {A = ℕ} 72 0; bounded = λ m. omega (arith, get_or-alike {A = ℕ} 72 (9 * m) 0) };
-      journal-room = record { long = journal-long; bounded = omega (arith, none) };
-      tail-room = λ n. omega (arith, get_or-alike {A = ℕ} 32 (2 * n + 1) 0);
+      queue = (ap queues_of z.queues-fresh ∙ fresh-queues) i;
+      journal = ap (λ (n : ℕ). map entry_of (take n arrays.journal.entries)) z.journal-empty i;
     }
 
 -- such arrays hold a fresh site
-pub playing-start : (table schedule comms log ends queues journal : List ℕ) (actors : List Actor)
-    → WellFormed table → Empty comms log ends queues journal → actors ≡ replicate 8 fresh_actor
-    → Playing table schedule comms log ends queues journal actors 0
-playing-start table schedule comms log ends queues journal actors ok z e =
-    rw (z.comms-fresh, z.ends_fresh, z.queues-fresh, e) (start-empty table schedule log journal ok z.log-long z.journal-long z.journal-empty)
+pub playing-start : (table schedule : List ℕ) (arrays : Arrays) (actors : List Actor) → WellFormed table → Empty arrays → actors ≡ replicate 8 fresh_actor
+    → Playing table schedule arrays actors 0
+playing-start table schedule arrays actors ok z e =
+    rw e
+    (record {
+      accepted-table = ok;
+      site = fresh-site arrays z;
+      taken = refl;
+      index = omega arith;
+      actors-long = length-replicate 8 fresh_actor;
+      tail-room = λ n. omega (arith, ap (λ (l : List ℕ). get_or l (2 * n + 1) 0) z.ends_fresh, get_or-alike {A = ℕ} 32 (2 * n + 1) 0);
+    })
 
 pub named_start : (table schedule names' : List ℕ) → length names' ≡ 256 → Named table schedule names' 0
 named_start table schedule names' long = record { names-long = long; names-right = refl }
 
-module _ {table schedule comms log ends queues journal : List ℕ} {actors : List Actor} {i : ℕ}
-    (P : Playing table schedule comms log ends queues journal actors i) (through : length schedule ≤ i) where
+module _ {table schedule : List ℕ} {arrays : Arrays} {actors : List Actor} {i : ℕ}
+    (P : Playing table schedule arrays actors i) (through : length schedule ≤ i) where
   all : i ≡ length schedule
   all = omega (arith, P.index)
 
@@ -118,20 +91,19 @@ module _ {table schedule comms log ends queues journal : List ℕ} {actors : Lis
   taken-all : accepted (machine table) initial schedule ≡ true
   taken-all = sym (ap (accepted (machine table) initial) whole) ∙ P.taken
 
-  pub checks-end : (n : RefusalNumbers) → fine ≡ check_schedule n table schedule
-  checks-end n = sym (taken-checks table n initial 0 schedule taken-all)
-
-  pub ended : {names' : List ℕ} → Named table schedule names' i → Ended table schedule comms log ends queues journal names' actors
-  ended {names'} N =
+  -- the schedule was played to its end
+  pub played-through : {names' : List ℕ} → Named table schedule names' i
+      → Through table schedule arrays names' (record { steps = i; actors = actors })
+  played-through {names'} N =
       record {
-        site = P.site ∙ ap (end_state table) whole;
-        actors-long = P.actors-long;
-        eight = P.eight;
-        mail-room = P.mail-room;
-        queue-room = P.queue-room;
-        journal-room = P.journal-room;
-        entries-most = entries-room table P.accepted-table schedule taken-all;
-        names-long = N.names-long;
-        names-right =
-            ap (λ (n : ℕ). map name_of (take n names')) (sym all) ∙ N.names-right ∙ ap (names (machine table) initial) whole;
+        checked = λ n. taken-checks table n initial 0 schedule taken-all;
+        counted = all;
+        ended = record {
+          site = P.site ∙ ap (end_state table) whole;
+          actors-long = P.actors-long;
+          entries-most = entries-room table P.accepted-table schedule taken-all;
+          names-long = N.names-long;
+          names-right =
+              ap (λ (n : ℕ). map name_of (take n names')) (sym all) ∙ N.names-right ∙ ap (names (machine table) initial) whole;
+        };
       }

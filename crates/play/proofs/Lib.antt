@@ -3,7 +3,7 @@ pub mod Prefix
 pub mod Playing
 pub mod Next
 pub mod Ends
-pub mod Entry
 pub mod Masks
 pub mod Quiet
 pub mod Making
+pub mod Leading

@@ -28,11 +28,11 @@ use Rattle.model.proofs.ReadyMask.{bit-one, mask-right}
 use Rattle.model.proofs.ReportBound.{actions-most}
 use Rattle.model.proofs.ReportBoundSteps.{schedule-taken}
 use Rattle.model.proofs.Scheduled.{Chooses, ready-left, turn-ready, entries-turn, entries-end}
+use Rattle.state.specs.declared.arrays.Site.{Site as Arrays}
 use Rattle.state.specs.State.{fresh_actor}
 use Rattle.state.specs.declared.Actor.{Actor}
 use Rattle.lead.specs.Parts.{Unheard}
 use Rattle.readiness.specs.Parts.{Answerable, Known}
-use Rattle.readiness.proofs.Laws.{ready-alike}
 use Rattle.play.proofs.Prefix.{final-more}
 use Rattle.play.proofs.Playing.{reached, Playing}
 use Rattle.play.proofs.Masks.{mask-some, mask-none, OwnOpen}
@@ -46,8 +46,8 @@ pub left-start : (rule : Rule) (table : List ℕ) (start : ℕ) → Left rule ta
 unfolding made_from
 left-start rule table start = refl
 
-module _ (rule : Rule) (chooses : Chooses rule) (table whole : List ℕ) (kept : ℕ) {comms log ends queues journal : List ℕ} {actors : List Actor} {i mask : ℕ}
-    (P : Playing table whole comms log ends queues journal actors i) (rest : Left rule table whole i kept) (masked : mask ≡ ready_mask table (reached table whole i)) where
+module _ (rule : Rule) (chooses : Chooses rule) (table whole : List ℕ) (kept : ℕ) {arrays : Arrays} {actors : List Actor} {i mask : ℕ}
+    (P : Playing table whole arrays actors i) (rest : Left rule table whole i kept) (masked : mask ≡ ready_mask table (reached table whole i)) where
   abbrev here : Site
   here = reached table whole i
 
@@ -105,19 +105,18 @@ module _ (rule : Rule) (chooses : Chooses rule) (table whole : List ℕ) (kept :
         ∙ ap (entries_from rule table (schedule_room - (i + 1)) (reached table whole (i + 1))) (sym k)
 
     -- who was ready before the step is ready after it, but perhaps its own actor
-    pub known_next : {comms' log' ends' queues' journal' : List ℕ} {actors' : List Actor} → Playing table whole comms' log' ends' queues' journal' actors' (i + 1)
-        → Known table mask a actors' comms' queues'
-    known_next {comms'} {log'} {ends'} {queues'} {journal'} {actors'} Q j h ne l e n =
+    pub known_next : {arrays' : Arrays} {actors' : List Actor} → Playing table whole arrays' actors' (i + 1)
+        → Known table mask a actors' arrays'
+    known_next {arrays'} {actors'} Q j h ne =
         let was : ready table here j ≡ true =
         bit-one (ready table here j) (sym ((mask-right table here).bits j) ∙ sym (ap (λ (m : ℕ). bit_of m j) masked) ∙ h) in
         let inv = inv-final (laws table) initial (take i whole) (inv-initial table) P.taken in
-        ready-alike table actors' comms' queues' l e n log' ends' journal' j
-        ∙ ap (λ (s : Site). ready table s j) (Q.site ∙ there) ∙ (laws table).persist here j a inv ne was is-ready
+        ap (λ (s : Site). ready table s j) (Q.site ∙ there) ∙ (laws table).persist here j a inv ne was is-ready
 
     -- after a step that nobody waits for, the mask is right but perhaps for its own actor
-    pub open_next : {comms' log' ends' queues' journal' : List ℕ} {actors' : List Actor} → Playing table whole comms' log' ends' queues' journal' actors' (i + 1)
+    pub open_next : {arrays' : Arrays} {actors' : List Actor} → Playing table whole arrays' actors' (i + 1)
         → Unheard (posts (action_of table a ((get_or actors' a fresh_actor).position - 1))) → OwnOpen table (reached table whole (i + 1)) mask a
-    open_next {comms'} {log'} {ends'} {queues'} {journal'} {actors'} Q quiet =
+    open_next {arrays'} {actors'} Q quiet =
         let one_on : (get_or actors' a fresh_actor).position ≡ suc (here.actor a).position =
         ap (λ (s : Site). (s.actor a).position) (Q.site ∙ there) ∙ own-position table here a in
         let its_own : (here.actor a).position ≡ (get_or actors' a fresh_actor).position - 1 = omega arith in
@@ -133,13 +132,10 @@ module _ (rule : Rule) (chooses : Chooses rule) (table whole : List ℕ) (kept :
     turn-in-table = ltb-true a (actors_of table) (ready-parts table here a is-ready).0
 
 -- what a look at every actor may rely on
-pub answerable : {table schedule comms log ends queues journal : List ℕ} {actors : List Actor} {i : ℕ} → Playing table schedule comms log ends queues journal actors i
-    → Answerable table actors comms queues
+pub answerable : {table schedule : List ℕ} {arrays : Arrays} {actors : List Actor} {i : ℕ} → Playing table schedule arrays actors i
+    → Answerable table actors
 answerable P =
     record {
       accepted = P.accepted-table;
       actors-long = P.actors-long;
-      eight = P.eight;
-      comms-room = P.mail-room.comms-room;
-      queue-room = P.queue-room;
     }

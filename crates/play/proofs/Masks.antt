@@ -8,39 +8,25 @@ use Prim.Native.Nat.{ℕ, zero, suc, ◌+◌, ◌-◌, ◌*◌, ◌^◌, ◌<◌
 use native.Mathlib.Nat.{pow-succ'}
 use native.Mathlib.Omega.{arith}
 use lib.Count.{ones}
+use Rattle.std.proofs.lemmas.Nat.{zero_from_ones, ones_le_self}
 use lib.Dec.{eqb}
 use borrow.Author.Tests.{eqb-true, eqb-false, eq-eqb, ne_eqb}
 use Rattle.table.specs.Format.{actors_of}
 use Rattle.trace.proofs.Bools.{which}
 use Rattle.model.specs.Site.{Site}
 use Rattle.model.specs.Step.{ready}
-use Rattle.model.specs.Ready.{bit, mask_of, how_many, ready_mask, ready_count}
+use Rattle.model.specs.Ready.{bit, mask_of, ready_mask, ready_count}
 use Rattle.model.proofs.ReadyMask.{mask-ones}
-
-none-masked : (f : ℕ → Bool) (n k : ℕ) → how_many f n k ≡ 0 → mask_of f n k ≡ 0
-none-masked f zero k h = refl
-none-masked f (suc n) k h =
-    let here : bit (f k) ≡ 0 = omega arith in
-    let rest : mask_of f n (suc k) ≡ 0 = none-masked f n (suc k) (omega arith) in
-    omega arith
 
 module _ (table : List ℕ) (s : Site) {mask : ℕ} (masked : mask ≡ ready_mask table s) where
   mask-counts : ones mask ≡ ready_count table s
   mask-counts = ap ones masked ∙ mask-ones (ready table s) (actors_of table) 0
 
   pub mask-some : 0 < mask → 0 < ready_count table s
-  mask-some h = go (which (eqb (ready_count table s) 0))
-    where
-      go : (eqb (ready_count table s) 0 ≡ true) ⊎ (eqb (ready_count table s) 0 ≡ false) → 0 < ready_count table s
-      go (inl e) = absurd (omega (arith, masked, none-masked (ready table s) (actors_of table) 0 (eqb-true (ready_count table s) 0 e)))
-      go (inr e) = let ne : ready_count table s ≡ 0 → ⊥ = eqb-false (ready_count table s) 0 e in omega arith
-
-  pub mask-ones-some : 0 < mask → 0 < ones mask
-  mask-ones-some h = omega (arith, mask-counts, mask-some h)
+  mask-some h = grind (arith, mask-counts, zero_from_ones mask)
 
   pub mask-none : mask ≡ 0 → ready_count table s ≡ 0
-  unfolding ones
-  mask-none z = sym mask-counts ∙ ap ones z
+  mask-none z = omega (arith, mask-counts, ones_le_self mask)
 
 -- ---- one bit
 

@@ -28,24 +28,22 @@ use Rattle.model.proofs.QueuedDepths.{join-own, depth-most, queued-locked}
 use Rattle.model.proofs.ReportBoundCounts.{how_many-most}
 use Rattle.model.proofs.ReportBoundLengths.{stepped-actor}
 use Rattle.names.specs.InByte.{name_of}
-use Rattle.state.specs.State.{record_of, records_of, fresh_actor, tail_in, site_of, MailRoom, QueueRoom, JournalRoom, EightCells}
+use Rattle.state.specs.declared.arrays.Site.{Site as Arrays}
+use Rattle.state.specs.State.{record_of, records_of, fresh_actor, site_of}
+use Rattle.state.specs.Rooms.{tail_in}
 use Rattle.state.specs.declared.Actor.{Actor}
 
 -- the state after the first i entries
 abbrev pub reached : List ℕ → List ℕ → ℕ → Site
 reached table schedule i = final (machine table) initial (take i schedule)
 
-pub record Playing (table schedule comms log ends queues journal : List ℕ) (actors : List Actor) (i : ℕ) : Type 0 where
+pub record Playing (table schedule : List ℕ) (arrays : Arrays) (actors : List Actor) (i : ℕ) : Type 0 where
   pub accepted-table : WellFormed table
-  pub site : site_of actors comms log ends queues journal ≡ reached table schedule i
+  pub site : site_of actors arrays ≡ reached table schedule i
   pub taken : accepted (machine table) initial (take i schedule) ≡ true
   pub index : i ≤ length schedule
   pub actors-long : length actors ≡ 8
-  pub eight : (a : ℕ) → EightCells (get_or actors a fresh_actor)
-  pub mail-room : MailRoom comms log ends
-  pub queue-room : QueueRoom queues
-  pub journal-room : JournalRoom journal
-  pub tail-room : (n : ℕ) → tail_in ends n ≤ i
+  pub tail-room : (n : ℕ) → tail_in arrays.mail.ends n ≤ i
 
 -- where the names of the steps are kept: those of the entries so far
 pub record Named (table schedule names' : List ℕ) (i : ℕ) : Type 0 where

@@ -5,7 +5,6 @@ use Rattle.model.specs.Ready.{mask_of}
 use Rattle.model.specs.Scheduler.{Rule}
 use Rattle.model.specs.Draw.{drawing}
 use Rattle.policy.specs.declared.Policy.{Policy}
-use Rattle.policy.specs.declared.Turn.{Turn}
 
 abbrev pub rule_of : Policy → Rule
 rule_of policy = drawing
@@ -14,8 +13,8 @@ abbrev pub kept_of : Policy → ℕ
 kept_of policy = policy.x
 
 -- of whatever tests the mask is, the actor is the one that the rule chooses; and the policy goes on by the same rule with what it then keeps
-pub record TurnRight (policy : Policy) (mask : ℕ) (t : Turn) : Type 0 where
+pub record TurnRight (policy : Policy) (mask actor : ℕ) (after : Policy) : Type 0 where
   pub chosen : (is_ready : ℕ → Bool) (actors : ℕ) → mask ≡ mask_of is_ready actors 0
-      → t.actor ≡ (rule_of policy).chooses (kept_of policy) is_ready actors
-  pub same-rule : rule_of t.policy ≡ rule_of policy
-  pub keeps : kept_of t.policy ≡ (rule_of policy).keeps (kept_of policy) t.actor
+      → actor ≡ (rule_of policy).chooses (kept_of policy) is_ready actors
+  pub same-rule : rule_of after ≡ rule_of policy
+  pub keeps : kept_of after ≡ (rule_of policy).keeps (kept_of policy) actor

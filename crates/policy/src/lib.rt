@@ -12,13 +12,6 @@ pub struct Policy {
     x: u32,
 }
 
-// A turn: the actor that is stepped, and the policy after it.
-#[derive(Clone, Copy)]
-pub struct Turn {
-    pub actor: usize,
-    pub policy: Policy,
-}
-
 impl Policy {
     // The drawn schedule of a seed.
     pub fn drawn(seed: u32) -> Self
@@ -27,18 +20,16 @@ impl Policy {
         Policy { x: seed }
     }
 
-    // The turn where the actors of a mask are ready, one at least.
-    pub fn turn(self, mask: u32) -> Turn
+    // The actor whose turn it is where those of a mask are ready, one at least.
+    pub fn turn(&mut self, mask: u32) -> usize
         requires { 0 < count_ones mask }
-        ensures { TurnRight self mask result }
+        ensures { TurnRight self.old mask result self.new }
     {
         let old = self.x;
         let x = draw(old);
-        let rank = x / 65536 % u32::count_ones(mask);
-        Turn {
-            actor: ranked(mask, rank),
-            policy: Policy { x },
-        }
+        self.x = x;
+        let rank = x / 65536 % mask.count_ones();
+        ranked(mask, rank)
     }
 }
 
@@ -46,14 +37,14 @@ impl Policy {
 fn draw(x: u32) -> u32
     ensures { result ≡ model_draw x }
 {
-    std::num::wrapping_add_u32(product(1664525, x), 1013904223)
+    product(1664525, x).wrapping_add(1013904223)
 }
 
-// The product modulo 2^32.
+// The product modulo 2^32. No `wrapping_mul` and its one cast stay: the product as a helper with a modular proof is a rule of the project.
 fn product(x: u32, y: u32) -> u32
     ensures { result ≡ x * y % 2 ^ 32 }
 {
-    (x as u64 * y as u64 % 4294967296) as u32
+    (u64::from(x) * u64::from(y) % 4294967296) as u32
 }
 
 // The place of the one of a rank among the ones of a mask, both counted from 0, from the lowest up.
@@ -63,15 +54,14 @@ fn ranked(mask: u32, rank: u32) -> usize
 {
     let mut m = mask;
     let mut r = rank;
-    let mut a = 0;
-    while 0 < m {
+    for a in 0..32 {
         let b = m % 2;
         if r < b {
             return a;
         }
         r -= b;
-        m = m / 2;
-        a += 1;
+        m /= 2;
     }
-    a
+    // no turn of the loop comes so far
+    32
 }

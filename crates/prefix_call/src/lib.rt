@@ -5,16 +5,12 @@ ghost use Rattle.std.specs.Prelude.{◌≡◌};
 ghost use Rattle.model.specs.Recordings.{prefix_comparison_of};
 ghost use Rattle.answers.specs.Answers.{same_result};
 
-use answers::SameAnswer;
+use answers::{Comparison, Refusal};
 
 // Whether two recordings are the same as far as both reach, and how many pairs of those steps were compared.
-pub fn prefix(table: &[u8], first: &[u8], second: &[u8]) -> SameAnswer
+pub fn prefix(table: &[u8], first: &[u8], second: &[u8]) -> Result<Comparison, Refusal>
     ensures { same_result result ≡ prefix_comparison_of table.now first.now second.now }
 {
-    let m = first.len();
-    let n = second.len();
-    if m < n {
-        return same_call::same(table, first, &second[..m]);
-    }
-    same_call::same(table, &first[..n], second)
+    let both = first.len().min(second.len());
+    same_call::same(table, &first[..both], &second[..both])
 }

@@ -7,11 +7,12 @@ use native.Mathlib.Nat.{add-zero}
 use native.Mathlib.Omega.{arith}
 use lib.ListN.{length, length-append, length-map}
 use Rattle.trace.specs.Machine.{Name}
-use Rattle.model.specs.Report.{word, name_bytes, box_bytes}
+use Rattle.model.specs.Report.{parts, word, name_bytes, box_bytes}
 use Rattle.names.specs.InByte.{name_of}
-use Rattle.state.specs.State.{head_in, tail_in, pending_in, LogRoom}
-use Rattle.queue_sections.specs.Parts.{port_bytes, queue_of}
-use Rattle.queue_sections.proofs.Lists.{taken-length}
+use Rattle.state.specs.State.{pending_in}
+use Rattle.state.specs.Rooms.{head_in, tail_in, LogRoom}
+use Rattle.queue_sections.specs.Parts.{name_at, port_bytes, queue_of}
+use Rattle.queue_sections.proofs.Lists.{names_at, taken-length}
 
 names-append : (l k : List Name) → name_bytes (l ++ k) ≡ name_bytes l ++ name_bytes k
 names-append [] k = refl
@@ -26,6 +27,10 @@ module _ (log ends : List ℕ) where
     -- a port's pending steps lie within the log
     pub port-room : (port : ℕ) → port < 16 → 256 * port + head_in ends port + count_in port ≤ 4096
     port-room port h = omega (arith, r.ordered port, r.bounded port)
+
+    -- the names that are written are those
+    pub port-steps : (port : ℕ) → port < 16 → parts (name_at log (256 * port + head_in ends port)) (count_in port) 0 ≡ port_bytes log ends port
+    port-steps port h = names_at log (256 * port + head_in ends port) (count_in port) (omega (arith, port-room port h, r.log-long))
 
     port-length : (port : ℕ) → port < 16 → length (map name_of (pending_in log ends port)) ≡ count_in port
     port-length port h =

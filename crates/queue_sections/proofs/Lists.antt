@@ -4,34 +4,26 @@ use mathlib.Core.Path.{◌≡◌, refl, ◌∙◌, ap}
 use mathlib.Core.List.{List, [], ◌∷◌, map}
 use Prim.Native.Nat.{ℕ, ◌+◌, ◌/◌, ◌%◌, ◌≤◌}
 use native.Mathlib.Omega.{arith}
-use lib.ListN.{length, get_or, take, drop, length-drop}
+use lib.ListN.{length, take, drop, length-drop}
 use lib.Seq.{length-take-le}
 use Rattle.model.specs.Report.{parts, name_bytes, queued_bytes}
 use Rattle.names.specs.InByte.{name_of}
 use Rattle.state.specs.State.{queued_of}
-use Rattle.queue_sections.specs.Parts.{steps_bytes, entries_bytes}
+use Rattle.queue_sections.specs.Parts.{name_at, entry_at}
 use Rattle.writing.proofs.Flat.{flat, flat-at}
-
--- a step's name, of the byte that holds it
-abbrev pub name_at : List ℕ → ℕ → ℕ → List ℕ
-name_at l from i = get_or l (from + i) 0 / 32 ∷ get_or l (from + i) 0 % 32 ∷ []
 
 names-flat : (l : List ℕ) → flat (λ x. x / 32 ∷ x % 32 ∷ []) l ≡ name_bytes (map name_of l)
 names-flat [] = refl
 names-flat (x ∷ l) = ap (λ (r : List ℕ). x / 32 ∷ x % 32 ∷ r) (names-flat l)
 
-pub names_at : (l : List ℕ) (from n : ℕ) → from + n ≤ length l → parts (name_at l from) n 0 ≡ steps_bytes l from n
+pub names_at : (l : List ℕ) (from n : ℕ) → from + n ≤ length l → parts (name_at l from) n 0 ≡ name_bytes (map name_of (take n (drop from l)))
 names_at l from n h = flat-at (λ x. x / 32 ∷ x % 32 ∷ []) l from n h ∙ names-flat (take n (drop from l))
-
--- an entry of a mutex's queue, of the byte that holds it
-abbrev pub entry_at : List ℕ → ℕ → ℕ → List ℕ
-entry_at l from i = get_or l (from + i) 0 % 8 ∷ (get_or l (from + i) 0 / 8 + 1) ∷ []
 
 entries-flat : (l : List ℕ) → flat (λ x. x % 8 ∷ (x / 8 + 1) ∷ []) l ≡ queued_bytes (map queued_of l)
 entries-flat [] = refl
 entries-flat (x ∷ l) = ap (λ (r : List ℕ). x % 8 ∷ (x / 8 + 1) ∷ r) (entries-flat l)
 
-pub entries_at : (l : List ℕ) (from n : ℕ) → from + n ≤ length l → parts (entry_at l from) n 0 ≡ entries_bytes l from n
+pub entries_at : (l : List ℕ) (from n : ℕ) → from + n ≤ length l → parts (entry_at l from) n 0 ≡ queued_bytes (map queued_of (take n (drop from l)))
 entries_at l from n h = flat-at (λ x. x % 8 ∷ (x / 8 + 1) ∷ []) l from n h ∙ entries-flat (take n (drop from l))
 
 -- how long

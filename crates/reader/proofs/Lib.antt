@@ -1,2 +1,2 @@
--- Reading by stages.
-pub mod Stages
+-- What the header, the directory and the file's end say of an action's place.
+pub mod Room

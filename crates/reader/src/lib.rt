@@ -1,121 +1,89 @@
 // The table reader: which files are task tables. The header, the directory, the file's end, and the actions of every actor, in file order.
 #![tactic(auto)]
 
-ghost use Rattle.std.specs.Prelude.{◌≡◌, ◌+◌, ◌*◌, ◌≤◌, length};
-ghost use Rattle.table.specs.Outcome.{each, ◌⨾◌};
-ghost use Rattle.table.specs.Format.{mailboxes_of, mutexes_of};
-ghost use Rattle.table.specs.Read.{read_of, entry_of, end_of, actions_of, check_of};
+ghost use Rattle.std.specs.Prelude.{◌≡◌, ◌+◌, ◌*◌, ◌<◌, ◌≤◌, length, MatchResult, OnOk};
+ghost use Rattle.table.specs.Outcome.{accepted};
+ghost use Rattle.table.specs.Format.{actors_of, due_of};
+ghost use Rattle.table.specs.Read.{read_of, header_of, entry_of, directory_of, actor_of, actions_of};
 ghost use Rattle.table.specs.Promise.{WellFormed};
-ghost use Rattle.table.specs.Answer.{outcome};
-ghost use Rattle.reader.specs.Parts.{Header, Inside};
-ghost use Rattle.fields.specs.Parts.{table_most, limits_of, q_under, value_under};
+ghost use Rattle.table.specs.Answer.{outcome, fault_of};
+ghost use Rattle.fields.specs.Parts.{LimitsOf};
+ghost use Rattle.reader.specs.Parts.{Placed};
 
-use table::{Reading, bytes};
+use fields::Limits;
+use table::{Fault, bytes, demand};
 
 // Reads a file of any length: whether it is a task table.
-pub fn read(table: &[u8]) -> Reading
+#[tactic(auto, using(table::proofs::Promise::promised), unfolding(table::specs::Read::read_of))]
+pub fn read(table: &[u8]) -> Result<(), Fault>
     ensures result_value { outcome result ≡ read_of table.now }
-    ensures well_formed { result ≡ Reading.Valid → WellFormed table.now }
+    ensures well_formed { OnOk result (WellFormed table.now) }
 {
-    if table.len() < 4 {
-        return Reading::Short;
-    }
-    if table[0] != 1 {
-        return Reading::Edition;
-    }
-    let actors = bytes::wide(table[1]);
-    let mailboxes = bytes::wide(table[2]);
-    let mutexes = bytes::wide(table[3]);
-    if actors < 1 {
-        return Reading::Counts;
-    }
-    if 8 < actors {
-        return Reading::Counts;
-    }
-    if 8 < mailboxes {
-        return Reading::Counts;
-    }
-    if 8 < mutexes {
-        return Reading::Counts;
-    }
-    if table.len() < 4 + 4 * actors {
-        return Reading::Directory;
-    }
-    entries(table, actors, mailboxes, mutexes)
+    header(table)?;
+    let end = directory(table)?;
+    demand(table.len() == end, Fault::Length)?;
+    actions(table)
 }
 
-// From the directory's entries on: each actor's offset is where the one before ended, and the file ends where the last one does.
-fn entries(t: &[u8], actors: usize, mailboxes: usize, mutexes: usize) -> Reading
-    requires { Header t.now actors mailboxes mutexes }
-    ensures { outcome result ≡ (each (entry_of t.now) actors 0 ⨾ end_of t.now ⨾ actions_of t.now) }
+fn header(t: &[u8]) -> Result<(), Fault>
+    ensures { outcome result ≡ header_of t.now }
 {
+    demand(4 <= t.len(), Fault::Short)?;
+    demand(t[0] == 1, Fault::Edition)?;
+    demand(1 <= t[1] && t[1] <= 8, Fault::Counts)?;
+    demand(t[2] <= 8, Fault::Counts)?;
+    demand(t[3] <= 8, Fault::Counts)
+}
+
+// Each actor's actions begin where those of the one before end. Where the last one's end, if nothing is wrong.
+#[tactic(auto, using(table::proofs::Readings::steps))]
+fn directory(t: &[u8]) -> Result<usize, Fault>
+    requires { header_of t.now ≡ accepted }
+    ensures { MatchResult result (λ end. (directory_of t.now ≡ accepted) × (end ≡ due_of t.now (actors_of t.now)))
+        (λ fault. directory_of t.now ≡ fault_of fault) }
+{
+    let actors = usize::from(t[1]);
     let mut due = 4 + 4 * actors;
-    let mut a = 0;
-    while a < actors {
-        let offset = bytes::word(t, 4 + 4 * a);
-        if offset != due {
-            return Reading::Directory;
-        }
-        let count = bytes::word(t, 6 + 4 * a);
-        if 32 < count {
-            return Reading::Directory;
-        }
-        due = due + 8 * count;
-        a += 1;
+    demand(due <= t.len(), Fault::Directory)?;
+    for a in 0..actors {
+        due = entry(t, a, due)?;
     }
-    if t.len() != due {
-        return Reading::Length;
-    }
-    all(t, actors, mailboxes, mutexes)
+    Ok(due)
 }
 
-// Every actor's actions.
-fn all(t: &[u8], actors: usize, mailboxes: usize, mutexes: usize) -> Reading
-    requires { Header t.now actors mailboxes mutexes × Inside t.now × (length t.now ≤ table_most) }
+// One entry: where the next actor's actions have to begin.
+fn entry(t: &[u8], a: usize, due: usize) -> Result<usize, Fault>
+    requires { (8 + 4 * a ≤ length t.now) × (due ≡ due_of t.now a) }
+    ensures { MatchResult result (λ next. (entry_of t.now a ≡ accepted) × (next ≡ due_of t.now (a + 1)))
+        (λ fault. entry_of t.now a ≡ fault_of fault) }
+{
+    let count = bytes::word(t, 6 + 4 * a);
+    demand(bytes::word(t, 4 + 4 * a) == due, Fault::Directory)?;
+    demand(count <= 32, Fault::Directory)?;
+    Ok(due + 8 * count)
+}
+
+#[tactic(auto, using(table::proofs::Readings::steps))]
+fn actions(t: &[u8]) -> Result<(), Fault>
+    requires { Placed t.now }
     ensures { outcome result ≡ actions_of t.now }
 {
-    let m = t[2];
-    let x = t[3];
-    let limits = [8, 8, 8, m, m, 8, 8, x, x, 8, 8, 8];
-    let seconds = [1, 8, 8, 8, 8, 0, 0, 1, 1, 0, 0, 1];
-    let values = [4294967296, 1, 1, 1, 1, 0, 0, 1, 1, 0, 0, 1];
-    let mut a = 0;
-    while a < actors {
-        let first = bytes::word(t, 4 + 4 * a);
-        let count = bytes::word(t, 6 + 4 * a);
-        let r = own(
-            t, first, count, mailboxes, mutexes, &limits, &seconds, &values,
-        );
-        let Reading::Valid = r else {
-            return r;
-        };
-        a += 1;
+    let limits = Limits::of(t);
+    for a in 0..usize::from(t[1]) {
+        actor(t, a, &limits)?;
     }
-    Reading::Valid
+    Ok(())
 }
 
 // One actor's actions.
-fn own(
-    t: &[u8],
-    first: usize,
-    count: usize,
-    mailboxes: usize,
-    mutexes: usize,
-    limits: &[u8; 12],
-    seconds: &[u8; 12],
-    values: &[usize; 12],
-) -> Reading
-    requires { (first + 8 * count ≤ length t.now) × (mailboxes ≡ mailboxes_of t.now) × (mutexes ≡ mutexes_of t.now)
-        × (length t.now ≤ table_most) × (limits.now ≡ limits_of t.now) × (seconds.now ≡ q_under) × (values.now ≡ value_under) }
-    ensures { outcome result ≡ each (check_of t.now first) count 0 }
+#[tactic(auto, using(table::proofs::Readings::steps))]
+fn actor(t: &[u8], a: usize, limits: &Limits) -> Result<(), Fault>
+    requires { Placed t.now × (a < actors_of t.now) × LimitsOf t.now limits.now }
+    ensures { outcome result ≡ actor_of t.now a }
 {
-    let mut k = 0;
-    while k < count {
-        let r = fields::check(t, first, k, mailboxes, mutexes, limits, seconds, values);
-        let Reading::Valid = r else {
-            return r;
-        };
-        k += 1;
+    let first = bytes::word(t, 4 + 4 * a);
+    for k in 0..bytes::word(t, 6 + 4 * a) {
+        fields::check(t, first, k, limits)?;
     }
-    Reading::Valid
+    Ok(())
 }

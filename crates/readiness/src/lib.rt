@@ -3,42 +3,35 @@
 
 ghost use Rattle.std.specs.Prelude.{◌≡◌, ◌≢◌, true, cond, ℕ, ◌+◌, ◌-◌, ◌^◌, ◌<◌, ◌≤◌, List, length};
 ghost use Rattle.table.specs.Format.{actors_of, count_of};
-ghost use Rattle.model.specs.Ready.{bit as as_bit, bit_of, ready_mask, ready_answer};
-ghost use Rattle.readiness.specs.Parts.{Answerable, Known, Looked, step_from, looks_ready, everyone_finished, site_with};
-ghost use Rattle.state.specs.State.{step_as};
+ghost use Rattle.model.specs.Ready.{bit_of, ready_mask, ready_answer};
+ghost use Rattle.readiness.specs.Parts.{Answerable, Known, Looked, step_from, looks_ready, everyone_finished};
+ghost use Rattle.state.specs.State.{site_of, step_as};
 ghost use Rattle.answers.specs.Answers.{readiness_of};
 
 use answers::{Ending, Readiness};
-use state::{Actor, NextStep};
+use state::{Actor, Hold, Site};
 use table::Action;
 
 // The number of actors that are ready is the number of ones in their mask.
-pub fn answer(table: &[u8], actors: [Actor; 8], comms: &[u64; 256], queues: &[u8; 72]) -> Readiness
-    requires { Answerable table.now actors comms.now queues.now }
-    ensures { (log ends journal : List ℕ) → readiness_of result
-        ≡ ready_answer table.now (site_with actors comms.now queues.now log ends journal) }
+pub fn answer(table: &[u8], actors: [Actor; 8], site: &Site) -> Readiness
+    requires { Answerable table.now actors }
+    ensures { readiness_of result
+        ≡ ready_answer table.now (site_of actors site.now) }
 {
     let n = table::access::actors(table);
-    let mask = ready_mask(table, n, 0, 0, actors, comms, queues);
-    let count = u32::count_ones(mask);
-    if all_finished(table, n, actors) {
-        return Readiness {
-            mask,
-            count,
-            ending: Ending::Finished,
-        };
-    }
-    if count == 0 {
-        return Readiness {
-            mask,
-            count,
-            ending: Ending::Stuck,
-        };
-    }
+    let mask = ready_mask(table, n, 0, 0, actors, site);
+    let count = mask.count_ones();
+    let ending = if all_finished(table, n, actors) {
+        Ending::Finished
+    } else if count == 0 {
+        Ending::Stuck
+    } else {
+        Ending::Going
+    };
     Readiness {
         mask,
         count,
-        ending: Ending::Going,
+        ending,
     }
 }
 
@@ -50,45 +43,31 @@ pub fn ready_mask(
     known: u32,
     a: usize,
     actors: [Actor; 8],
-    comms: &[u64; 256],
-    queues: &[u8; 72],
+    site: &Site,
 ) -> u32
-    requires { Answerable table.now actors comms.now queues.now × (n ≡ actors_of table.now)
-        × Known table.now known a actors comms.now queues.now }
-    ensures { (log ends journal : List ℕ) → result
-        ≡ ready_mask table.now (site_with actors comms.now queues.now log ends journal) }
+    requires { Answerable table.now actors × (n ≡ actors_of table.now) × Known table.now known a actors site.now }
+    ensures { result
+        ≡ ready_mask table.now (site_of actors site.now) }
 {
     let mut m = 0;
-    let mut i = n;
-    while 0 < i {
-        i -= 1;
-        if is_known(known, a, i) {
-            m = 1 + 2 * m;
-        } else {
-            let r = actors[i];
-            m = bit(is_ready(table, i, r, comms, queues)) + 2 * m;
-        }
+    for i in (0..n).rev() {
+        let ready = is_known(known, a, i) || is_ready(table, i, actors[i], site);
+        m = u32::from(ready) + 2 * m;
     }
     m
 }
 
 // A mask that has actor `a`, with its bit as it is now.
-pub fn own_bit(
-    table: &[u8],
-    mask: u32,
-    a: usize,
-    r: Actor,
-    comms: &[u64; 256],
-    queues: &[u8; 72],
-) -> u32
-    requires { Looked table.now a r comms.now queues.now × (2 ^ a ≤ mask) }
-    ensures { (log ends : List ℕ) → result
-        ≡ cond (looks_ready table.now a r comms.now queues.now log ends) mask (mask - 2 ^ a) }
+pub fn own_bit(table: &[u8], mask: u32, a: usize, r: Actor, site: &Site) -> u32
+    requires { Looked table.now a × (2 ^ a ≤ mask) }
+    ensures { result
+        ≡ cond (looks_ready table.now a r site.now) mask (mask - 2 ^ a) }
 {
-    if is_ready(table, a, r, comms, queues) {
-        return mask;
+    if is_ready(table, a, r, site) {
+        mask
+    } else {
+        mask - (1 << a)
     }
-    mask - (1 << a)
 }
 
 // Whether a mask has actor i, where it is not actor a.
@@ -96,59 +75,36 @@ fn is_known(known: u32, a: usize, i: usize) -> bool
     requires { i < 8 }
     ensures { result ≡ true → (bit_of known i ≡ 1) × (i ≢ a) }
 {
-    if i == a {
-        return false;
-    }
-    (known >> i) % 2 == 1
+    i != a && (known >> i) % 2 == 1
 }
 
 // Whether an actor is ready: not finished, and its next step is taken.
-fn is_ready(table: &[u8], a: usize, r: Actor, comms: &[u64; 256], queues: &[u8; 72]) -> bool
-    requires { Looked table.now a r comms.now queues.now }
-    ensures { (log ends : List ℕ) → result
-        ≡ looks_ready table.now a r comms.now queues.now log ends }
+fn is_ready(table: &[u8], a: usize, r: Actor, site: &Site) -> bool
+    requires { Looked table.now a }
+    ensures { result
+        ≡ looks_ready table.now a r site.now }
 {
-    let k = r.position;
-    if table::access::actions(table, a) <= k {
-        return false;
-    }
-    let next = next_step(table, a, r, comms, queues);
-    match next {
-        NextStep::Taken => true,
-        NextStep::Waits => false,
-        NextStep::Over => false,
-    }
+    r.position < table::access::actions(table, a) && next_step(table, a, r, site).is_ok()
 }
 
 // What the next step of an actor is that is not finished.
-pub fn next_step(
-    table: &[u8],
-    a: usize,
-    r: Actor,
-    comms: &[u64; 256],
-    queues: &[u8; 72],
-) -> NextStep
-    requires { Looked table.now a r comms.now queues.now × (r.position < count_of table.now a) }
-    ensures { (log ends : List ℕ) → step_as result
-        ≡ step_from table.now a r comms.now queues.now log ends }
+pub fn next_step(table: &[u8], a: usize, r: Actor, site: &Site) -> Result<(), Hold>
+    requires { Looked table.now a × (r.position < count_of table.now a) }
+    ensures { step_as result
+        ≡ step_from table.now a r site.now }
 {
-    let k = r.position;
-    let x = table::within::action(table, a, k);
-    match x {
+    match table::within::action(table, a, r.position) {
         Action::Add { cell, other } => r.adding(cell, other),
-        Action::WaitAny { result: _, list } => look::awaited(look::communications(comms, a, list)),
-        Action::MutexWait { result: _, list } => look::awaited(look::mutexes(queues, a, list)),
-        _ => NextStep::Taken,
+        Action::WaitAny { result: _, list } => look::awaited(look::communications(
+            &site.mail, a, list,
+        )),
+        Action::MutexWait { result: _, list } => look::awaited(look::mutexes(
+            &site.queues,
+            a,
+            list,
+        )),
+        _ => Ok(()),
     }
-}
-
-fn bit(b: bool) -> u32
-    ensures { (result ≡ as_bit b) × (result ≤ 1) }
-{
-    if b {
-        return 1;
-    }
-    0
 }
 
 // Whether every actor's position has come to its number of actions.
@@ -156,14 +112,9 @@ fn all_finished(table: &[u8], n: usize, actors: [Actor; 8]) -> bool
     requires { (n ≤ 8) × (length actors ≡ 8) }
     ensures { result ≡ everyone_finished table.now n actors }
 {
-    let mut a = 0;
-    while a < n {
-        let r = actors[a];
-        let k = r.position;
-        if k < table::access::actions(table, a) {
-            return false;
-        }
-        a += 1;
-    }
-    true
+    actors
+        .iter()
+        .take(n)
+        .enumerate()
+        .all(|(a, r)| table::access::actions(table, a) <= r.position)
 }

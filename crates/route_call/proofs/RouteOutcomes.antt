@@ -26,7 +26,10 @@ use Rattle.model.proofs.ComparisonLaws.{verdicts}
 use Rattle.model.proofs.Checks.{checks-taken, given-accepted, gives-injective, answer-given}
 use Rattle.model.proofs.Demand3.{site-theorems}
 use Rattle.model.proofs.Routes.{route-written}
-use Rattle.answers.specs.declared.SameAnswer.{SameAnswer}
+use Rattle.std.proofs.Common.{Result as Either, Ok}
+use Rattle.answers.specs.declared.Comparison.{Comparison}
+use Rattle.answers.specs.declared.Comparison.TheVariants.{Same, Different}
+use Rattle.answers.specs.declared.Refusal.{Refusal}
 use Rattle.answers.specs.Answers.{same_result}
 use Rattle.comparison.specs.Traces.{ComparedRight}
 
@@ -54,10 +57,16 @@ module _ (table first second before after : List ℕ) where
   right o result e h = subst (λ (x : Outcome). RightAnswer x table first second before after result) (sym e) h
 
 -- the verdict in the answer is that of the call same
-pub verdict-of : {table first second first_bytes second_bytes : List ℕ} {r s : SameAnswer} → r ≡ s
+pub verdict-of : {table first second first_bytes second_bytes : List ℕ} {r s : Either Comparison Refusal} → r ≡ s
     → ComparedRight table first second first_bytes second_bytes r → verdict_in (same_result s) ≡ same_of table first second
 verdict-of {table} {first} {second} e c =
-    ap (λ (a : SameAnswer). verdict_in (same_result a)) (sym e) ∙ ap verdict_in c.right ∙ verdicts table first second
+    ap (λ (a : Either Comparison Refusal). verdict_in (same_result a)) (sym e) ∙ ap verdict_in c.right ∙ verdicts table first second
+
+-- a verdict that is not "same" is "different"
+pub told-different : {table first second first_bytes second_bytes : List ℕ} (v : Comparison) → ((pairs : ℕ) → v ≡ Same pairs → ⊥)
+    → ComparedRight table first second first_bytes second_bytes (Ok v) → gives different ≡ same_of table first second
+told-different (Same pairs) not c = absurd (not pairs refl)
+told-different (Different pairs) not c = verdict-of refl c
 
 module _ (table first second : List ℕ) where
   same-accepted : (v : SameVerdict) → gives v ≡ same_of table first second → same_checks table first second ≡ accepted

@@ -5,27 +5,24 @@ ghost use Rattle.std.specs.Prelude.{◌≡◌, ◌≤◌};
 ghost use Rattle.model.specs.Route.{most_exchanges, RightRoute};
 ghost use Rattle.answers.specs.Answers.{length_result};
 
-use answers::{LengthAnswer, Refusal, SameAnswer};
+use answers::{Comparison, Refusal};
 
 // Writes a route from the first schedule to the second into the lent entries: a chain of exchanges, each by its position.
-pub fn route(table: &[u8], first: &[u8], second: &[u8], route: &mut [u16]) -> LengthAnswer
+pub fn route(table: &[u8], first: &[u8], second: &[u8], route: &mut [u16]) -> Result<u32, Refusal>
     ensures { RightRoute table.now first.now second.now route.old route.new (length_result result) }
 {
     let mut names = [0u8; 256];
     let mut others = [0u8; 256];
-    let answer = comparison::compared(table, first, second, &mut names, &mut others);
-    match answer {
-        SameAnswer::Same(_) => {
-            let m = first.len();
-            if route.len() < most_exchanges(m) {
-                return LengthAnswer::Refused(Refusal::RouteRoom);
-            }
-            let n = routing::route(&names, &others, m, route);
-            LengthAnswer::Length(n as u32)
-        }
-        SameAnswer::Different(_) => LengthAnswer::Refused(Refusal::Different),
-        SameAnswer::Refused(refusal) => LengthAnswer::Refused(refusal),
+    let comparison = comparison::compared(table, first, second, &mut names, &mut others)?;
+    let Comparison::Same(_) = comparison else {
+        return Err(Refusal::Different);
+    };
+    let m = first.len();
+    if route.len() < most_exchanges(m) {
+        return Err(Refusal::RouteRoom);
     }
+    let n = routing::route(&names, &others, m, route);
+    Ok(n as u32)
 }
 
 // The most exchanges that a route between schedules of length m has.
@@ -33,8 +30,5 @@ fn most_exchanges(m: usize) -> usize
     requires { m ≤ 256 }
     ensures { result ≡ most_exchanges m }
 {
-    if m < 1 {
-        return 0;
-    }
-    m * (m - 1) / 2
+    m * m.saturating_sub(1) / 2
 }

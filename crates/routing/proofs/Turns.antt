@@ -5,9 +5,10 @@ use native.Mathlib.Numerals.{add-one}
 use native.Mathlib.Omega.{arith}
 use mathlib.Core.Path.{◌≡◌, refl, ◌∙◌, ap, sym, subst}
 use mathlib.Core.Bool.{true}
-use mathlib.Core.List.{List, [], ◌∷◌, ◌++◌, map, append_assoc, map-append}
-use lib.ListN.{length, get_or, take, drop, length-map, length-append, length-drop, take-append-drop}
-use lib.Seq.{length-take-le, get_or-take}
+use mathlib.Core.List.{List, [], ◌∷◌, ◌++◌, map, append_assoc, append-nil, map-append}
+use lib.ListN.{length, get_or, take, drop, length-map, length-append, length-drop, take-append-drop, drop_of_length-le}
+use lib.Seq.{length-take-le, take_all, drop-cons, drop-drop, drop-append_seam}
+use borrow.Rule.Slice.PartMut.{put_mid}
 use Rattle.trace.specs.Machine.{Name}
 use Rattle.trace.specs.Order.{mem}
 use Rattle.trace.specs.Route.{place, remove, pull, route_from}
@@ -18,10 +19,40 @@ use Rattle.writing.specs.Written.{Wrote}
 use Rattle.writing.proofs.Written.{rest, joined, rest-room, written-length, wrote_then}
 use Rattle.names.specs.Names.{names_in}
 use Rattle.routing.specs.Routable.{Routable}
-use Rattle.routing.specs.Parts.{route_in, names_from, Bringable, Brought}
+use Rattle.routing.specs.Parts.{route_in, Brought}
 use Rattle.routing.proofs.NamePlaces.{place-below, mem-front, place-front, remove-front}
-use Rattle.routing.proofs.TakenOut.{names-next}
+use Rattle.routing.proofs.TakenOut.{held}
 use Rattle.routing.proofs.Positions.{pull-length}
+
+-- ---- the names from place b on
+
+abbrev pub names_from : ℕ → List ℕ → List Name
+names_from b bytes = map name_of (drop b bytes)
+
+names-next : (b : ℕ) (l : List ℕ) → b < length l → names_from b l ≡ name_of (get_or l b 0) ∷ names_from (b + 1) l
+names-next b l h = ap (map name_of) (drop-cons l b 0 h) ∙ ap (λ (k : ℕ). name_of (get_or l b 0) ∷ names_from k l) (sym (add-one b))
+
+-- the bytes from place b on, as they are lent, and all when those have come back as p
+abbrev lent : ℕ → List ℕ → List ℕ
+lent b l = take (256 - b) (drop b l)
+
+lent-names : (b : ℕ) (l : List ℕ) → length l ≡ 256 → map name_of (lent b l) ≡ names_from b l
+lent-names b l e = ap (map name_of) (take_all (256 - b) (drop b l) (omega (arith, length-drop b l)))
+
+module _ (b : ℕ) (l p : List ℕ) (e : length l ≡ 256) (h : b < 256) (f : length p ≡ length (lent b l)) where
+  whole : put_mid b (256 - b) l p ≡ take b l ++ p
+  whole =
+      let none : drop (256 - b) (drop b l) ≡ [] = drop_of_length-le (drop b l) (omega (arith, length-drop b l)) in
+      rw (none, append-nil)
+
+  whole-long : length (put_mid b (256 - b) l p) ≡ 256
+  whole-long = rw whole (omega (arith, length-append (take b l) p, length-take-le b l (omega arith), length-take-le (256 - b) (drop b l) (omega (arith, length-drop b l))))
+
+  whole-names : names_from (b + 1) (put_mid b (256 - b) l p) ≡ map name_of (drop 1 p)
+  whole-names =
+      let front : length (take b l) ≡ b = length-take-le b l (omega arith) in
+      let behind : drop b (take b l ++ p) ≡ p = subst (λ n. drop n (take b l ++ p) ≡ p) front (drop-append_seam (take b l) p) in
+      rw whole (ap (map name_of) (sym (drop-drop 1 b (take b l ++ p)) ∙ ap (drop 1) behind))
 
 -- b steps are in place: `written` is written of the route, and what is left of the first list stands from b on
 pub record Routing (first second : List ℕ) (m : ℕ) (positions left now : List ℕ) (n b : ℕ) : Type 0 where
@@ -63,16 +94,16 @@ module _ {first second : List ℕ} {m : ℕ} {positions : List ℕ} (r : Routabl
     pub keeps-length : length now ≡ length positions
     keeps-length = written-length positions t.written now written-room t.wrote.1
 
-    module _ (h : b < m) where
-      y : ℕ
-      y = get_or second b 0
+    module _ (inside : b < length (take m second)) where
+      h : b < m
+      h = omega (arith, taken-long)
+
+      abbrev y : ℕ
+      y = get_or (take m second) b 0
 
       -- the names that are left of the second list begin with y, and y is left of the first
       second-next : names_from b (take m second) ≡ name_of y ∷ names_from (b + 1) (take m second)
-      unfolding y
-      second-next =
-          let inside : b < length (take m second) = omega (arith, taken-long) in
-          names-next b (take m second) inside ∙ ap (λ (x : ℕ). name_of x ∷ names_from (b + 1) (take m second)) (get_or-take m second b 0 h)
+      second-next = names-next b (take m second) (omega (arith, taken-long))
 
       same_next : SameNames t.names (name_of y ∷ names_from (b + 1) (take m second))
       same_next = subst (SameNames t.names) second-next t.same
@@ -80,20 +111,15 @@ module _ {first second : List ℕ} {m : ℕ} {positions : List ℕ} (r : Routabl
       held-left : mem (name_of y) t.names ≡ true
       held-left = same_head (name_of y) t.names (names_from (b + 1) (take m second)) same_next
 
-      pub bringable : Bringable left b (get_or second b 0)
-      unfolding y
-      bringable =
-          record {
-            long = t.long;
-            begin = omega (arith, r.most);
-            held =
-                subst (λ (u : List Name). mem (name_of y) u ≡ true) (sym t.held) (mem-front (name_of y) t.names (names_from m first) held-left);
-          }
+      here : map name_of (lent b left) ≡ t.names ++ names_from m first
+      here = lent-names b left t.long ∙ t.held
 
-      module _ {left' : List ℕ} {way : ℕ} (g : Brought left left' b (get_or second b 0) way) where
+      pub bringable : held y (lent b left)
+      bringable = subst (λ (u : List Name). mem (name_of y) u ≡ true) (sym here) (mem-front (name_of y) t.names (names_from m first) held-left)
+
+      module _ {left' : List ℕ} {way : ℕ} (g : Brought (lent b left) left' y way) where
         way-left : way ≡ place (name_of y) t.names
-        unfolding y
-        way-left = g.before ∙ ap (place (name_of y)) t.held ∙ place-front (name_of y) t.names (names_from m first) held-left
+        way-left = g.before ∙ ap (place (name_of y)) here ∙ place-front (name_of y) t.names (names_from m first) held-left
 
         -- the positions fit 16 bits
         pub way-below : b + way ≤ 256
@@ -118,15 +144,16 @@ module _ {first second : List ℕ} {m : ℕ} {positions : List ℕ} (r : Routabl
         pub room : way ≤ length (rest n now)
         room = rest-room n way now fits
 
-        pub next : {p : List ℕ} {k : ℕ} → Wrote (rest n now) (pull b way) p k → Routing first second m positions left' (joined n now p) (n + k) (b + 1)
-        unfolding y
+        pub next : {p : List ℕ} {k : ℕ} → Wrote (rest n now) (pull b way) p k → Routing first second m positions (put_mid b (256 - b) left left') (joined n now p) (n + k) (b + 1)
         next {p} {k} w =
             record {
               written = t.written ++ pull b way;
               names = remove (name_of y) t.names;
-              long = g.long;
-              most = omega arith;
-              held = g.left ∙ ap (remove (name_of y)) t.held ∙ remove-front (name_of y) t.names (names_from m first) held-left;
+              long = whole-long b left left' t.long (omega (arith, h, r.most)) g.long;
+              most = omega (arith, h);
+              held =
+                  whole-names b left left' t.long (omega (arith, h, r.most)) g.long
+                  ∙ g.behind ∙ ap (remove (name_of y)) here ∙ remove-front (name_of y) t.names (names_from m first) held-left;
               same = same-tail (name_of y) t.names (names_from (b + 1) (take m second)) same_next;
               whole = whole-next;
               wrote = wrote_then positions t.written now (pull b way) p n k t.wrote w;

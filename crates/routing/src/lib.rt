@@ -2,11 +2,13 @@
 // the steps that stand before it in what is left of the first.
 #![tactic(auto)]
 
-ghost use Rattle.std.specs.Prelude.{◌≡◌, ◌++◌, ◌+◌, ◌≤◌, length, drop};
+ghost use Rattle.std.specs.Prelude.{◌≡◌, ◌++◌, ◌+◌, ◌≤◌, true, length, drop, map};
+ghost use Rattle.trace.specs.Order.{mem};
 ghost use Rattle.trace.specs.Route.{pull};
+ghost use Rattle.names.specs.InByte.{name_of};
 ghost use Rattle.writing.specs.Written.{Wrote};
 ghost use Rattle.routing.specs.Routable.{Routable};
-ghost use Rattle.routing.specs.Parts.{route_in, Bringable, Brought};
+ghost use Rattle.routing.specs.Parts.{route_in, Brought};
 
 // Writes the positions of the exchanges that turn the first list of m step names into the second, each step pulled to its place in turn, and
 // answers their number.
@@ -18,30 +20,20 @@ pub fn route(first: &[u8; 256], second: &[u8; 256], m: usize, positions: &mut [u
 {
     let mut rest = *first;
     let mut n = 0;
-    let mut b = 0;
-    while b < m {
-        let y = second[b];
-        let way = bring(&mut rest, b, y);
+    for (b, y) in second[..m].iter().enumerate() {
+        let way = bring(&mut rest[b..], *y);
         n += write(b, way, &mut positions[n..]);
-        b += 1;
     }
     n
 }
 
-// Takes the step y, which stands at b or behind it, out of the rest: the steps before it move back by one, so that what is left begins at b + 1.
-// How many they are.
-fn bring(rest: &mut [u8; 256], b: usize, y: u8) -> usize
-    requires { Bringable rest.old b y }
-    ensures { Brought rest.old rest.new b y result }
+// Takes the step y out of what is left: the steps before it move back by one, over it. How many they are.
+fn bring(left: &mut [u8], y: u8) -> usize
+    requires { mem (name_of y) (map name_of left.old) ≡ true }
+    ensures { Brought left.old left.new y result }
 {
-    let mut carry = rest[b];
-    let mut way = 0;
-    while carry != y {
-        way += 1;
-        let next = rest[b + way];
-        rest[b + way] = carry;
-        carry = next;
-    }
+    let way = left.iter().position(|x| *x == y).unwrap();
+    left.copy_within(..way, 1);
     way
 }
 
@@ -50,10 +42,8 @@ fn write(b: usize, way: usize, positions: &mut [u16]) -> usize
     requires { (b + way ≤ 256) × (way ≤ length positions.old) }
     ensures { Wrote positions.old (pull b way) positions.new result }
 {
-    let mut k = 0;
-    while k < way {
-        positions[k] = (b + way - 1 - k) as u16;
-        k += 1;
+    for (k, position) in positions[..way].iter_mut().enumerate() {
+        *position = (b + way - 1 - k) as u16;
     }
-    k
+    way
 }

@@ -10,26 +10,24 @@ use Rattle.model.specs.Report.{report}
 use Rattle.model.specs.Schedule.{end_state}
 use Rattle.model.proofs.ReportBound.{reports-fit}
 use Rattle.state.specs.declared.Actor.{Actor}
+use Rattle.state.specs.declared.arrays.Site.{Site as Arrays}
 use Rattle.state.specs.State.{site_of}
 use Rattle.report.specs.Parts.{Reportable}
 use Rattle.execution.specs.Parts.{AtEnd}
 use Rattle.execution.proofs.Ends.{all-taken, positions-small}
 
-module _ {table schedule comms log ends queues journal names : List ℕ} {actors : List Actor} (E : AtEnd table schedule comms log ends queues journal names actors) where
+module _ {table schedule : List ℕ} {arrays : Arrays} {names : List ℕ} {actors : List Actor} (E : AtEnd table schedule arrays names actors) where
   -- no report's length passes 4,514
-  pub report-small : length (report table (site_of actors comms log ends queues journal)) ≤ 4514
+  pub report-small : length (report table (site_of actors arrays)) ≤ 4514
   report-small =
       let fit = reports-fit table E.promise in
       let small : length (report table (end_state table schedule)) ≤ 4514 = omega (arith, fit.fits schedule (all-taken E), fit.room) in
       subst (λ (s : Site). length (report table s) ≤ 4514) (sym E.end.site) small
 
-  pub reportable : (buffer : List ℕ) → 4514 ≤ length buffer → Reportable table actors comms log ends queues journal buffer
+  pub reportable : (buffer : List ℕ) → 4514 ≤ length buffer → Reportable table actors arrays buffer
   reportable buffer room =
       record {
         accepted = E.promise;
         positions = positions-small E;
-        mail-room = E.end.mail-room;
-        queue-room = E.end.queue-room;
-        journal-room = E.end.journal-room;
         room = omega (arith, report-small);
       }

@@ -5,42 +5,20 @@ ghost use Rattle.std.specs.Prelude.{◌≡◌};
 ghost use Rattle.model.specs.Calls.{run_of};
 ghost use Rattle.answers.specs.Answers.{length_result};
 
-use answers::{LengthAnswer, Refusal};
-use execution::Course;
+use answers::Refusal;
+use state::Site;
 
 // Runs a schedule from a fresh site and writes the state report of its end into the lent bytes.
-pub fn run(table: &[u8], schedule: &[u8], report: &mut [u8]) -> LengthAnswer
+pub fn run(table: &[u8], schedule: &[u8], report: &mut [u8]) -> Result<u32, Refusal>
     ensures answer { length_result result ≡ (run_of table.now schedule.now report.old).result }
     ensures lent { report.new ≡ (run_of table.now schedule.now report.old).lent }
 {
     if report.len() < 4514 {
-        return LengthAnswer::Refused(Refusal::ReportRoom);
+        return Err(Refusal::ReportRoom);
     }
-    let mut comms = [0u64; 256];
-    let mut log = [0u8; 4096];
-    let mut ends = [0usize; 32];
-    let mut queues = [0u8; 72];
-    let mut journal = [0usize; 257];
+    let mut site = Site::fresh();
     let mut names = [0u8; 256];
-    let execution = execution::execute(
-        table,
-        schedule,
-        &mut comms,
-        &mut log,
-        &mut ends,
-        &mut queues,
-        &mut journal,
-        &mut names,
-    );
-    let course = execution.course;
-    match course {
-        Course::End => {
-            let actors = execution.actors;
-            let n = report::write(
-                table, actors, &comms, &log, &ends, &queues, &journal, report,
-            );
-            LengthAnswer::Length(n as u32)
-        }
-        Course::Refused(refusal) => LengthAnswer::Refused(refusal),
-    }
+    let actors = execution::execute(table, schedule, &mut site, &mut names)?;
+    let n = report::write(table, actors, &site, report);
+    Ok(n as u32)
 }

@@ -5,10 +5,10 @@ ghost use Rattle.std.specs.Prelude.{◌≡◌};
 ghost use Rattle.model.specs.Calls.{comparison_of};
 ghost use Rattle.answers.specs.Answers.{same_result};
 
-use answers::SameAnswer;
+use answers::{Comparison, Refusal};
 
 // Whether two schedules are the same, and how many pairs of steps were compared.
-pub fn same(table: &[u8], first: &[u8], second: &[u8]) -> SameAnswer
+pub fn same(table: &[u8], first: &[u8], second: &[u8]) -> Result<Comparison, Refusal>
     ensures { same_result result ≡ comparison_of table.now first.now second.now }
 {
     let mut names = [0u8; 256];

@@ -6,7 +6,7 @@ use Prim.Native.Nat.{ℕ, suc, ◌+◌, ◌/◌, ◌<◌, ◌≤◌}
 use native.Mathlib.Numerals.{add-one}
 use native.Mathlib.Omega.{arith}
 use lib.ListN.{length, get_or, set, take, drop, length-map}
-use lib.Seq.{take-suc, drop-cons, set_at, length-take-le, length_front}
+use lib.Seq.{take-suc, drop-cons, set_at, length-take-le}
 use Rattle.trace.specs.Machine.{Name}
 use Rattle.trace.specs.Schedule.{names}
 use Rattle.trace.proofs.Run.{actors}
@@ -24,9 +24,6 @@ written held before i = map actor_in (take i held) ++ drop i before
 
 front_long : (held : List ℕ) (i : ℕ) → i ≤ length held → length (map actor_in (take i held)) ≡ i
 front_long held i h = length-map (take i held) actor_in ∙ length-take-le i held h
-
-pub written-long : (held before : List ℕ) (i : ℕ) → i ≤ length held → i ≤ length before → length (written held before i) ≡ length before
-written-long held before i h k = length_front before (map actor_in (take i held)) i (front_long held i h ∙ sym (length-take-le i before k))
 
 pub written_next : (held before : List ℕ) (i : ℕ) → i < length held → i < length before
     → set (written held before i) i (actor_in (get_or held i 0)) ≡ written held before (i + 1)

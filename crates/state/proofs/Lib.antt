@@ -1,3 +1,4 @@
 -- Laws of the arrays that belong to no one function.
-pub mod Within
+pub mod Fresh
 pub mod Queued
+pub mod Stored

@@ -6,7 +6,8 @@ use mathlib.Core.Path.{◌≡◌, ◌∙◌}
 use mathlib.Core.List.{List}
 use lib.ListN.{length, drop, length-drop, length-map}
 use lib.Seq.{length-take-le}
-use Rattle.state.specs.State.{queued_of, size_in, entries_in, queues_of, QueueRoom}
+use Rattle.state.specs.State.{queued_of, entries_in, queues_of}
+use Rattle.state.specs.Rooms.{size_in, QueueRoom}
 
 pub entries-length : (queues : List ℕ) (m : ℕ) → QueueRoom queues → m < 8 → length (entries_in queues m) ≡ size_in queues m
 entries-length queues m room known =

@@ -1,15 +1,18 @@
 -- The state in arrays, and the site of the model that the arrays hold.
 -- Assumes nothing: these are definitions.
-use Rattle.std.specs.Prelude.{ℕ, ◌+◌, ◌-◌, ◌*◌, ◌/◌, ◌%◌, ◌^◌, ◌<◌, ◌≤◌, ◌≡◌, cond, List, [], map, eqb, ltb, length, get_or, take, drop, replicate}
+use Rattle.std.specs.Prelude.{◌≡◌, ℕ, ◌+◌, ◌-◌, ◌*◌, ◌/◌, ◌%◌, ◌<◌, cond, Result, Ok, Err, List, [], map, eqb, ltb, get_or, take, drop, replicate, refl}
 use Rattle.table.specs.declared.Action.{Action}
 use Rattle.table.specs.Decode.{action_of}
 use Rattle.trace.specs.Machine.{Name}
 use Rattle.model.specs.Site.{Actor as Record, Side, sends, receives, Port, Comm, unposted, pending, done, Mail, Entry, Queued, Site}
 use Rattle.model.specs.Step as Step
 use Rattle.names.specs.InByte.{name_of}
+use Rattle.state.specs.Rooms.{head_in, tail_in, size_in}
+use Rattle.state.specs.declared.arrays.Journal.{Journal}
+use Rattle.state.specs.declared.arrays.Site.{Site as Arrays}
 use Rattle.state.specs.declared.Actor.{Actor}
-use Rattle.state.specs.declared.NextStep.{NextStep}
-use Rattle.state.specs.declared.NextStep.TheVariants as case
+use Rattle.state.specs.declared.Hold.{Hold}
+use Rattle.state.specs.declared.Hold.TheVariants.{Waits, Over}
 
 -- a communication in one number: 0 unposted; 1 + 1024 · value pending; 2 + 4 · partner + 1024 · value done
 abbrev pub comm_of : ℕ → Comm
@@ -28,14 +31,7 @@ side_number receives = 1
 abbrev pub port_number : Port → ℕ
 port_number p = 2 * p.mailbox + side_number p.side
 
--- each port has a log of 256 names, to which it only appends; those from its head to its tail are pending. The ends stand side by side: port n's
--- head at 2 · n, and its tail one further
-abbrev pub head_in : (ends : List ℕ) → ℕ → ℕ
-head_in ends n = get_or ends (2 * n) 0
-
-abbrev pub tail_in : (ends : List ℕ) → ℕ → ℕ
-tail_in ends n = get_or ends (2 * n + 1) 0
-
+-- those from a port's head to its tail are pending
 abbrev pub pending_in : (log ends : List ℕ) → ℕ → List ℕ
 pending_in log ends n = take (tail_in ends n - head_in ends n) (drop (256 * n + head_in ends n) log)
 
@@ -49,10 +45,7 @@ mail_of comms log ends = record { comm = comms_of comms; waiting = waiting_of lo
 abbrev pub queued_of : ℕ → Queued
 queued_of b = record { actor = b % 8; depth = b / 8 + 1 }
 
--- a mutex has nine bytes: its queue's length, then its entries
-abbrev pub size_in : (queues : List ℕ) → ℕ → ℕ
-size_in queues m = get_or queues (9 * m) 0
-
+-- the entries of a mutex's queue
 abbrev pub entries_in : (queues : List ℕ) → ℕ → List ℕ
 entries_in queues m = take (size_in queues m) (drop (9 * m + 1) queues)
 
@@ -63,16 +56,13 @@ queues_of queues m = map queued_of (entries_in queues m)
 abbrev pub entry_of : ℕ → Entry
 entry_of e = record { step = name_of (e % 256); value = e / 256 }
 
--- the journal has the number of its entries, then the entries
-abbrev pub number_noted : (journal : List ℕ) → ℕ
-number_noted journal = get_or journal 0 0
-
-abbrev pub journal_of : (journal : List ℕ) → List Entry
-journal_of journal = map entry_of (take (number_noted journal) (drop 1 journal))
+-- the journal: as many of its array's entries as are counted
+abbrev pub journal_of : Journal → List Entry
+journal_of journal = map entry_of (take journal.count journal.entries)
 
 -- the actors' records
 abbrev pub fresh_actor : Actor
-fresh_actor = record { position = 0; cells = replicate 8 0 }
+fresh_actor = record { position = 0; cells = replicate 8 0; eight = refl }
 
 abbrev pub record_of : Actor → Record
 record_of r = record { position = r.position; cells = r.cells }
@@ -80,35 +70,22 @@ record_of r = record { position = r.position; cells = r.cells }
 abbrev pub records_of : List Actor → ℕ → Record
 records_of actors a = record_of (get_or actors a fresh_actor)
 
-abbrev pub site_of : List Actor → (comms log ends queues journal : List ℕ) → Site
-site_of actors comms log ends queues journal =
-    record { actor = records_of actors; mail = mail_of comms log ends; queue = queues_of queues; journal = journal_of journal }
+abbrev pub held_mail : Arrays → Mail
+held_mail s = mail_of s.mail.comms s.mail.log s.mail.ends
 
--- the communications have their array's length, and each value fits 32 bits
-pub record CommsRoom (comms : List ℕ) : Type 0 where
-  pub long : length comms ≡ 256
-  pub valued : (j : ℕ) → get_or comms j 0 < 2 ^ 42
+abbrev pub held_queues : Arrays → ℕ → List Queued
+held_queues s = queues_of s.queues.bytes
 
--- the ports' logs have their arrays' lengths, and none runs over
-pub record LogRoom (log ends : List ℕ) : Type 0 where
-  pub log-long : length log ≡ 4096
-  pub ends-long : length ends ≡ 32
-  pub ordered : (n : ℕ) → head_in ends n ≤ tail_in ends n
-  pub bounded : (n : ℕ) → tail_in ends n ≤ 256
+abbrev pub site_of : List Actor → Arrays → Site
+site_of actors s =
+    record { actor = records_of actors; mail = held_mail s; queue = held_queues s; journal = journal_of s.journal }
 
-pub record MailRoom (comms log ends : List ℕ) : Type 0 where
-  pub comms-room : CommsRoom comms
-  pub log-room : LogRoom log ends
-
--- the queues' array has its length, and no queue is longer than eight
-pub record QueueRoom (queues : List ℕ) : Type 0 where
-  pub long : length queues ≡ 72
-  pub bounded : (m : ℕ) → size_in queues m ≤ 8
-
--- the journal's array has its length, and room for each action of the largest table
-pub record JournalRoom (journal : List ℕ) : Type 0 where
-  pub long : length journal ≡ 257
-  pub bounded : number_noted journal ≤ 256
+-- the arrays of a fresh site: what the logs and the journal's entries hold plays no part
+pub record Empty (s : Arrays) : Type 0 where
+  pub comms-fresh : s.mail.comms ≡ replicate 256 0
+  pub ends_fresh : s.mail.ends ≡ replicate 32 0
+  pub queues-fresh : s.queues.bytes ≡ replicate 72 0
+  pub journal-empty : s.journal.count ≡ 0
 
 -- each actor's position fits a byte
 abbrev pub Positions : List Actor → Type 0
@@ -116,20 +93,16 @@ Positions actors = (a : ℕ) → (records_of actors a).position < 256
 
 -- ---- one actor's part
 
--- an actor's record has its eight cells
-abbrev pub EightCells : Actor → Type 0
-EightCells r = length r.cells ≡ 8
-
 -- the site as a step of one actor sees it: the others' records and the journal play no part
-abbrev pub seen_from : Actor → Mail → (ℕ → List Queued) → Site
-seen_from r mail queue = record { actor = λ a. record_of r; mail = mail; queue = queue; journal = [] }
+abbrev pub seen_from : Actor → Arrays → Site
+seen_from r s = record { actor = λ a. record_of r; mail = held_mail s; queue = held_queues s; journal = [] }
 
 -- the actor's next action
 abbrev pub next_of : List ℕ → ℕ → Actor → Action
 next_of table a r = action_of table a r.position
 
--- what the actor's next step is
-abbrev pub step_as : NextStep → Step.NextStep
-step_as case.Taken = Step.taken
-step_as case.Waits = Step.waiting
-step_as case.Over = Step.over
+-- what an actor's next step is, whatever is handed back where it is taken
+abbrev pub step_as : {T : Type 0} → Result T Hold → Step.NextStep
+step_as (Ok value) = Step.taken
+step_as (Err Waits) = Step.waiting
+step_as (Err Over) = Step.over

@@ -4,10 +4,9 @@ use mathlib.Core.Path.{◌≡◌, subst}
 use mathlib.Core.Bool.{Bool, true, false, cond}
 use mathlib.Core.Logic.{◌⊎◌, inl, inr}
 use mathlib.Core.List.{List, [], ◌∷◌}
-use Prim.Native.Nat.{ℕ, zero, suc, suc-le-suc, ◌+◌, ◌<◌, ◌≤◌}
-use native.Mathlib.Nat.{le_of_suc-le-suc, not-suc-le-zero}
+use Prim.Native.Nat.{ℕ, zero, suc, suc-le-suc, ◌+◌, ◌<◌}
 use native.Mathlib.Omega.{arith}
-use lib.ListN.{length, get_or, take}
+use lib.ListN.{get_or, take}
 use Rattle.trace.proofs.Bools.{which}
 use Rattle.table.specs.declared.Numbers.{Numbers}
 use Rattle.table.specs.Promise.{number}
@@ -20,10 +19,10 @@ Has P unseen = Unit {0}
 Has P (seen place number value) = P place number
 
 module _ (test : ℕ → Bool) (value : ℕ → ℕ) (P : ℕ → ℕ → Type 0) where
-  first-has : (l : List ℕ) (c from : ℕ) → c ≤ length l → ((i : ℕ) → i < c → P (from + i) (get_or l i 0)) → Has P (first test value from (take c l))
-  first-has l zero from h each = tt
-  first-has [] (suc c) from h each = absurd (not-suc-le-zero h)
-  first-has (x ∷ l) (suc c) from h each = go (which (test x)) (first-has l c (suc from) (le_of_suc-le-suc h) later)
+  first-has : (l : List ℕ) (c from : ℕ) → ((i : ℕ) → i < c → P (from + i) (get_or l i 0)) → Has P (first test value from (take c l))
+  first-has l zero from each = tt
+  first-has [] (suc c) from each = tt
+  first-has (x ∷ l) (suc c) from each = go (which (test x)) (first-has l c (suc from) later)
     where
       later : (i : ℕ) → i < c → P (suc from + i) (get_or l i 0)
       later i below = let e : from + suc i ≡ suc from + i = omega arith in subst (λ (p : ℕ). P p (get_or l i 0)) e (each (suc i) (suc-le-suc below))
@@ -37,5 +36,5 @@ module _ (test : ℕ → Bool) (value : ℕ → ℕ) (P : ℕ → ℕ → Type 0
       go (inr e) rest = rw e rest
 
   -- each listed number has the property at its place, counted from 1
-  pub listed_has : (l : Numbers) → l.count ≤ 4 → ((i : ℕ) → i < l.count → P (1 + i) (number l i)) → Has P (first test value 1 (listed l))
-  listed_has l most each = first-has (l.n0 ∷ l.n1 ∷ l.n2 ∷ l.n3 ∷ []) l.count 1 most each
+  pub listed_has : (l : Numbers) → ((i : ℕ) → i < l.count → P (1 + i) (number l i)) → Has P (first test value 1 (listed l))
+  listed_has l each = first-has l.all l.count 1 each

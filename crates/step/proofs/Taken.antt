@@ -6,6 +6,7 @@ use mathlib.Core.List.{List, [], ◌∷◌, ◌++◌}
 use Prim.Native.Nat.{ℕ, ◌+◌, ◌*◌, ◌<◌, ◌≤◌}
 use native.Mathlib.Omega.{arith}
 use lib.ListN.{get_or}
+use Rattle.std.proofs.Common.{Result, Ok, Err}
 use Rattle.table.specs.declared.Action.{Action}
 use Rattle.table.specs.declared.Action.TheVariants.{Note}
 use Rattle.table.specs.declared.Numbers.{Numbers}
@@ -13,7 +14,8 @@ use Rattle.table.specs.Format.{count_of}
 use Rattle.table.specs.Decode.{action_of}
 use Rattle.table.specs.Promise.{InRange, Listing, LowerCommunication, number}
 use Rattle.trace.specs.Machine.{Name}
-use Rattle.model.specs.Site.{Mail, Entry, Port, name}
+use Rattle.model.specs.Site as Model
+use Rattle.model.specs.Site.{Port, name}
 use Rattle.model.specs.Views.{Post, silent, mails, posts, looks, sent, listed}
 use Rattle.model.specs.Mail.{mailing, meet}
 use Rattle.model.specs.Mutex.{queueing}
@@ -21,11 +23,16 @@ use Rattle.model.specs.Journal.{noting}
 use Rattle.model.specs.Local.{Seen, unseen, seen, first, see, cells_after}
 use Rattle.model.specs.Step.{taken, step_of}
 use Rattle.names.specs.InByte.{name_of}
-use Rattle.state.specs.State.{tail_in, mail_of, queues_of, journal_of, MailRoom, QueueRoom, JournalRoom, next_of, seen_from, step_as}
-use Rattle.step.specs.Parts.{Steppable, StepTaken, After, Picks, SmallPlace}
+use Rattle.state.specs.State.{held_mail, held_queues, queues_of, journal_of, next_of, seen_from, step_as}
+use Rattle.state.specs.Rooms.{tail_in}
+use Rattle.state.specs.declared.arrays.Mail.{Mail}
+use Rattle.state.specs.declared.arrays.Queues.{Queues}
+use Rattle.state.specs.declared.arrays.Journal.{Journal}
+use Rattle.state.specs.declared.arrays.Site.{Site as Arrays}
+use Rattle.step.specs.Parts.{Steppable, StepTaken, Picks, SmallPlace}
 use Rattle.state.specs.declared.Actor.{Actor}
-use Rattle.state.specs.declared.NextStep.TheVariants.{Taken}
-use Rattle.step.specs.declared.Stepped.{Stepped}
+use Rattle.state.specs.declared.Hold.{Hold}
+use Rattle.mail.specs.Parts.{Posted}
 use Rattle.names.proofs.InByte.{name-byte}
 use Rattle.step.proofs.Steps.{record-after}
 use Rattle.step.proofs.Found.{Has, listed_has}
@@ -41,10 +48,9 @@ has-place (seen place n v) h = h
 -- the place of a listed number is at most 4
 pub small-place : (test : ℕ → Bool) (value : ℕ → ℕ) (l : Numbers) → l.count ≤ 4 → SmallPlace (first test value 1 (listed l))
 small-place test value l most =
-    has-place (first test value 1 (listed l)) (listed_has test value (λ place n. place ≤ 4) l most (λ i below. omega arith))
+    has-place (first test value 1 (listed l)) (listed_has test value (λ place n. place ≤ 4) l (λ i below. omega arith))
 
-module _ {table : List ℕ} {a : ℕ} {r : Actor} {comms log ends queues journal : List ℕ}
-    (S : Steppable table a r comms log ends queues journal) where
+module _ {table : List ℕ} {a : ℕ} {r : Actor} {site : Arrays} (S : Steppable table a r site) where
   pub ranged : (x : Action) → next_of table a r ≡ x → InRange table a r.position x
   ranged x e = subst (InRange table a r.position) e (S.accepted.in-range a r.position S.actor S.unfinished)
 
@@ -61,116 +67,98 @@ module _ {table : List ℕ} {a : ℕ} {r : Actor} {comms log ends queues journal
   pub pickable : (test : ℕ → Bool) (value : ℕ → ℕ) (l : Numbers) → Listing (LowerCommunication table a r.position) l → Picks table a (first test value 1 (listed l))
   pickable test value l L =
       has-picks table a (first test value 1 (listed l))
-      (listed_has test value (λ place n. n < count_of table a) l L.most (λ i h. omega (arith, (L.right i h).0, S.unfinished)))
+      (listed_has test value (λ place n. n < count_of table a) l (λ i h. omega (arith, (L.right i h).0, S.unfinished)))
 
   -- a step that is taken has room to post
-  pub room-to-post : (x : Action) → next_of table a r ≡ x → step_of table (seen_from r (mail_of comms log ends) (queues_of queues)) a x ≡ taken
-      → (n : ℕ) → tail_in ends n < 256
-  room-to-post x e t = S.tail-room (ap (step_of table (seen_from r (mail_of comms log ends) (queues_of queues)) a) e ∙ t)
+  pub room-to-post : (x : Action) → next_of table a r ≡ x → step_of table (seen_from r site) a x ≡ taken
+      → (n : ℕ) → tail_in site.mail.ends n < 256
+  room-to-post x e t = S.tail-room (ap (step_of table (seen_from r site) a) e ∙ t)
 
-  -- a step that posts nothing leaves the arrays as they are
-  pub quiet : (x : Action) (s : Stepped) → posts x ≡ silent
-      → step_as s.next ≡ step_of table (seen_from r (mail_of comms log ends) (queues_of queues)) a x
-      → After s (r.position + 1) (cells_after (action_of table a) x (see (seen_from r (mail_of comms log ends) (queues_of queues)) a (looks x)) r.cells)
-      → StepTaken table a x r comms log ends queues journal comms log ends queues journal s
-  quiet x s none next after =
+  -- the record of a step of the action x that is taken
+  abbrev Moves : Action → Actor → Type 0
+  Moves x next = (next.position ≡ r.position + 1) × (next.cells ≡ cells_after (action_of table a) x (see (seen_from r site) a (looks x)) r.cells)
+
+  -- a step that is taken leaves its record, and what it posts
+  done : (x : Action) (next : Actor) {after : Arrays} → taken ≡ step_of table (seen_from r site) a x → Moves x next
+      → held_mail after ≡ mailing (posts x) (name a r.position) (sent x r.cells) (held_mail site)
+      → held_queues after ≡ queueing (posts x) a (held_queues site)
+      → journal_of after.journal ≡ noting (posts x) (name a r.position) (sent x r.cells) (journal_of site.journal)
+      → ((n : ℕ) → tail_in after.mail.ends n ≤ tail_in site.mail.ends n + 1)
+      → StepTaken table a x r site after (Ok next)
+  done x next right moved mail queue journaled grown =
       record {
-        next-right = next;
-        took = λ t. record {
-          record-next = record-after (action_of table a) x (see (seen_from r (mail_of comms log ends) (queues_of queues)) a (looks x)) r s.actor (after t).0 (after t).1;
-          mail-next = sym (ap (λ (p : Post). mailing p (name a r.position) (sent x r.cells) (mail_of comms log ends)) none);
-          queue-next = sym (ap (λ (p : Post). queueing p a (queues_of queues)) none);
-          journal-next = sym (ap (λ (p : Post). noting p (name a r.position) (sent x r.cells) (journal_of journal)) none);
+        next-right = right;
+        took = record {
+          record-next = record-after (action_of table a) x (see (seen_from r site) a (looks x)) r next moved.0 moved.1;
+          mail-next = mail;
+          queue-next = queue;
+          journal-next = journaled;
         };
-        mail-room = S.mail-room;
-        queue-room = S.queue-room;
-        journal-room = S.journal-room;
-        grown = λ n. omega arith;
-      }
-
-  -- a step's name in one byte is its name
-  pub meets-as : (port : Port) (v : ℕ) (mail : Mail) → meet port (name_of (32 * a + r.position)) v mail ≡ meet port (name a r.position) v mail
-  meets-as port v mail = ap (λ (x : Name). meet port x v mail) (name-byte a r.position position-small)
-
-  -- a step that posts to a mailbox changes the mail alone
-  pub posted : (x : Action) (s : Stepped) (port : Port) {comms' log' ends' : List ℕ} (v : ℕ) → posts x ≡ mails port → sent x r.cells ≡ v
-      → step_as s.next ≡ step_of table (seen_from r (mail_of comms log ends) (queues_of queues)) a x
-      → mail_of comms' log' ends' ≡ meet port (name a r.position) v (mail_of comms log ends)
-      → MailRoom comms' log' ends' → ((n : ℕ) → tail_in ends' n ≤ tail_in ends n + 1)
-      → After s (r.position + 1) (cells_after (action_of table a) x (see (seen_from r (mail_of comms log ends) (queues_of queues)) a (looks x)) r.cells)
-      → StepTaken table a x r comms log ends queues journal comms' log' ends' queues journal s
-  posted x s port {comms'} {log'} {ends'} v mailed carries next mail room grown after =
-      record {
-        next-right = next;
-        took = λ t. record {
-          record-next = record-after (action_of table a) x (see (seen_from r (mail_of comms log ends) (queues_of queues)) a (looks x)) r s.actor (after t).0 (after t).1;
-          mail-next = mail ∙ sym (ap₂ (λ (p : Post) (w : ℕ). mailing p (name a r.position) w (mail_of comms log ends)) mailed carries);
-          queue-next = sym (ap (λ (p : Post). queueing p a (queues_of queues)) mailed);
-          journal-next = sym (ap (λ (p : Post). noting p (name a r.position) (sent x r.cells) (journal_of journal)) mailed);
-        };
-        mail-room = room;
-        queue-room = S.queue-room;
-        journal-room = S.journal-room;
         grown = grown;
       }
 
+  -- one that is not taken leaves the site as it is
+  pub held : (x : Action) (h : Hold) → step_as {T = Actor} (Err h) ≡ step_of table (seen_from r site) a x → StepTaken table a x r site site (Err h)
+  held x h right = record { next-right = right; took = tt; grown = λ n. omega arith }
+
+  -- nor does one that posts nothing
+  pub quiet : (x : Action) (next : Actor) → posts x ≡ silent → taken ≡ step_of table (seen_from r site) a x → Moves x next
+      → StepTaken table a x r site site (Ok next)
+  quiet x next none right moved =
+      done x next right moved
+      (sym (ap (λ (p : Post). mailing p (name a r.position) (sent x r.cells) (held_mail site)) none))
+      (sym (ap (λ (p : Post). queueing p a (held_queues site)) none))
+      (sym (ap (λ (p : Post). noting p (name a r.position) (sent x r.cells) (journal_of site.journal)) none))
+      (λ n. omega arith)
+
+  -- a step that posts to a mailbox changes the mail alone, and the step's name in one byte is its name
+  pub posted : (x : Action) (next : Actor) (port : Port) {mail : Mail} (v : ℕ) → posts x ≡ mails port → sent x r.cells ≡ v
+      → taken ≡ step_of table (seen_from r site) a x
+      → Posted port (name_of (32 * a + r.position)) v site.mail mail
+      → Moves x next
+      → StepTaken table a x r site (record { mail = mail; queues = site.queues; journal = site.journal }) (Ok next)
+  posted x next port v mailed carries right post moved =
+      done x next right moved
+      (post.mail
+      ∙ ap (λ (me : Name). meet port me v (held_mail site)) (name-byte a r.position position-small)
+      ∙ sym (ap₂ (λ (p : Post) (w : ℕ). mailing p (name a r.position) w (held_mail site)) mailed carries))
+      (sym (ap (λ (p : Post). queueing p a (held_queues site)) mailed))
+      (sym (ap (λ (p : Post). noting p (name a r.position) (sent x r.cells) (journal_of site.journal)) mailed))
+      post.grown
+
   -- a step that joins or leaves a mutex's queue changes the queues alone
-  pub queued : (x : Action) (s : Stepped) (p : Post) {queues' : List ℕ} → posts x ≡ p
-      → step_as s.next ≡ step_of table (seen_from r (mail_of comms log ends) (queues_of queues)) a x
-      → ((me : Name) (v : ℕ) (mail : Mail) → mailing p me v mail ≡ mail)
-      → ((me : Name) (v : ℕ) (entries : List Entry) → noting p me v entries ≡ entries)
-      → queues_of queues' ≡ queueing p a (queues_of queues)
-      → QueueRoom queues'
-      → After s (r.position + 1) (cells_after (action_of table a) x (see (seen_from r (mail_of comms log ends) (queues_of queues)) a (looks x)) r.cells)
-      → StepTaken table a x r comms log ends queues journal comms log ends queues' journal s
-  queued x s p {queues'} post next unmailed unnoted changed room after =
-      record {
-        next-right = next;
-        took = λ t. record {
-          record-next = record-after (action_of table a) x (see (seen_from r (mail_of comms log ends) (queues_of queues)) a (looks x)) r s.actor (after t).0 (after t).1;
-          mail-next =
-              sym
-              (ap (λ (q : Post). mailing q (name a r.position) (sent x r.cells) (mail_of comms log ends)) post
-              ∙ unmailed (name a r.position) (sent x r.cells) (mail_of comms log ends));
-          queue-next = changed ∙ sym (ap (λ (q : Post). queueing q a (queues_of queues)) post);
-          journal-next =
-              sym
-              (ap (λ (q : Post). noting q (name a r.position) (sent x r.cells) (journal_of journal)) post
-              ∙ unnoted (name a r.position) (sent x r.cells) (journal_of journal));
-        };
-        mail-room = S.mail-room;
-        queue-room = room;
-        journal-room = S.journal-room;
-        grown = λ n. omega arith;
-      }
+  pub queued : (x : Action) (next : Actor) (p : Post) {queues : Queues} → posts x ≡ p
+      → taken ≡ step_of table (seen_from r site) a x
+      → ((me : Name) (v : ℕ) (mail : Model.Mail) → mailing p me v mail ≡ mail)
+      → ((me : Name) (v : ℕ) (entries : List Model.Entry) → noting p me v entries ≡ entries)
+      → queues_of queues.bytes ≡ queueing p a (held_queues site)
+      → Moves x next
+      → StepTaken table a x r site (record { mail = site.mail; queues = queues; journal = site.journal }) (Ok next)
+  queued x next p post right unmailed unnoted changed moved =
+      done x next right moved
+      (sym
+      (ap (λ (q : Post). mailing q (name a r.position) (sent x r.cells) (held_mail site)) post
+      ∙ unmailed (name a r.position) (sent x r.cells) (held_mail site)))
+      (changed ∙ sym (ap (λ (q : Post). queueing q a (held_queues site)) post))
+      (sym
+      (ap (λ (q : Post). noting q (name a r.position) (sent x r.cells) (journal_of site.journal)) post
+      ∙ unnoted (name a r.position) (sent x r.cells) (journal_of site.journal)))
+      (λ n. omega arith)
 
   -- a Note changes the journal alone
-  pub noted : (cell : ℕ) (s : Stepped) {journal' : List ℕ} → s.next ≡ Taken
-      → journal_of journal' ≡ journal_of journal ++ (record { step = name_of (32 * a + r.position); value = get_or r.cells cell 0 } ∷ [])
-      → JournalRoom journal' → After s (r.position + 1) r.cells
-      → StepTaken table a (Note cell) r comms log ends queues journal comms log ends queues journal' s
+  pub noted : (cell : ℕ) (next : Actor) {journal : Journal}
+      → journal_of journal ≡ journal_of site.journal ++ (record { step = name_of (32 * a + r.position); value = get_or r.cells cell 0 } ∷ [])
+      → (next.position ≡ r.position + 1) × (next.cells ≡ r.cells)
+      → StepTaken table a (Note cell) r site (record { mail = site.mail; queues = site.queues; journal = journal }) (Ok next)
   unfolding cells_after
-  noted cell s {journal'} next changed room after =
-      record {
-        next-right = ap step_as next;
-        took = λ t. record {
-          record-next = record-after (action_of table a) (Note cell) unseen r s.actor (after t).0 (after t).1;
-          mail-next = refl;
-          queue-next = refl;
-          journal-next =
-              changed
-              ∙ ap (λ (me : Name). journal_of journal ++ (record { step = me; value = get_or r.cells cell 0 } ∷ [])) (name-byte a r.position position-small);
-        };
-        mail-room = S.mail-room;
-        queue-room = S.queue-room;
-        journal-room = room;
-        grown = λ n. omega arith;
-      }
+  noted cell next changed moved =
+      done (Note cell) next refl moved refl refl
+      (changed
+      ∙ ap (λ (me : Name). journal_of site.journal ++ (record { step = me; value = get_or r.cells cell 0 } ∷ [])) (name-byte a r.position position-small))
+      (λ n. omega arith)
 
 -- a step of the action x is a step of the next action, which x is
-pub of-next : {table : List ℕ} {a : ℕ} {r : Actor} {comms log ends queues journal comms' log' ends' queues' journal' : List ℕ} {s : Stepped}
-    (x : Action) → next_of table a r ≡ x
-    → StepTaken table a x r comms log ends queues journal comms' log' ends' queues' journal' s
-    → StepTaken table a (next_of table a r) r comms log ends queues journal comms' log' ends' queues' journal' s
-of-next {table} {a} {r} {comms} {log} {ends} {queues} {journal} {comms'} {log'} {ends'} {queues'} {journal'} {s} x e t =
-    subst (λ (y : Action). StepTaken table a y r comms log ends queues journal comms' log' ends' queues' journal' s) (sym e) t
+pub of-next : {table : List ℕ} {a : ℕ} {r : Actor} {before after : Arrays} {s : Result Actor Hold}
+    (x : Action) → next_of table a r ≡ x → StepTaken table a x r before after s → StepTaken table a (next_of table a r) r before after s
+of-next {table} {a} {r} {before} {after} {s} x e t =
+    subst (λ (y : Action). StepTaken table a y r before after s) (sym e) t

@@ -25,10 +25,6 @@ pub then-right : (o after : Outcome) → (o ⨾ after) ≡ accepted → after �
 then-right accepted after e = e
 then-right (refused n p) after e = refused-not e
 
-pub then-then : (a b c : Outcome) → ((a ⨾ b) ⨾ c) ≡ (a ⨾ b ⨾ c)
-then-then accepted b c = refl
-then-then (refused n p) b c = refl
-
 pub demand-true : (test : Bool) (n p : ℕ) → demand test n p ≡ accepted → test ≡ true
 demand-true true n p e = refl
 demand-true false n p e = refused-not e
@@ -59,12 +55,9 @@ each-begin f n = rw sub-zero
 pub each_next : (f : ℕ → Outcome) (n i : ℕ) → i < n → each f (n - i) i ≡ (f i ⨾ each f (n - (i + 1)) (i + 1))
 each_next f n i h = ap (λ (m : ℕ). each f m i) (one_less n i h) ∙ ap (λ (j : ℕ). f i ⨾ each f (n - (i + 1)) j) (sym (add-one i))
 
--- it accepts, and the loop goes on; it refuses, and that is the outcome
+-- it accepts, and the loop goes on
 pub each-go : (f : ℕ → Outcome) (n i : ℕ) → i < n → f i ≡ accepted → each f (n - i) i ≡ each f (n - (i + 1)) (i + 1)
 each-go f n i h e = each_next f n i h ∙ ap (λ (o : Outcome). o ⨾ each f (n - (i + 1)) (i + 1)) e
-
-pub each-stop : (f : ℕ → Outcome) (n i a p : ℕ) → i < n → f i ≡ refused a p → each f (n - i) i ≡ refused a p
-each-stop f n i a p h e = each_next f n i h ∙ ap (λ (o : Outcome). o ⨾ each f (n - (i + 1)) (i + 1)) e
 
 -- no check is left
 pub each-end : (f : ℕ → Outcome) (n i : ℕ) → n ≤ i → each f (n - i) i ≡ accepted

@@ -4,4 +4,3 @@ pub mod Readings
 pub mod Placed
 pub mod Promise
 pub mod Decoded
-pub mod OtherKinds

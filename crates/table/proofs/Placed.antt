@@ -5,28 +5,15 @@ use mathlib.Core.List.{List}
 use Prim.Native.Nat.{ℕ, zero, suc, ◌+◌, ◌-◌, ◌*◌, ◌<◌, ◌≤◌}
 use native.Mathlib.Nat.{add-zero, zero-add, add-suc, le_refl}
 use native.Mathlib.Omega.{arith}
-use borrow.Author.Tests.{eq-eqb, ne_eqb, le-leb, lt-leb, eqb-true, leb-true}
+use borrow.Author.Tests.{eqb-true, leb-true}
 use lib.Dec.{eqb, leb}
 use lib.ListN.{length}
-use Rattle.table.specs.Outcome.{accepted, refused, demand, each}
+use Rattle.table.specs.Outcome.{accepted, demand, each}
 use Rattle.table.specs.Format.{actors_of, offset_of, count_of, due_of}
 use Rattle.table.specs.Read.{entry_of}
 use Rattle.table.proofs.Checks.{then-left, then-right, demand-true, each_at}
 
 module _ (b : List ℕ) where
-  pub entry-misplaced : (a : ℕ) → (offset_of b a ≡ due_of b a → ⊥) → entry_of b a ≡ refused 4 0
-  entry-misplaced a h = rw (ne_eqb (offset_of b a) (due_of b a) h)
-
-  pub entry-long : (a : ℕ) → offset_of b a ≡ due_of b a → 32 < count_of b a → entry_of b a ≡ refused 4 0
-  entry-long a e h = rw (eq-eqb (offset_of b a) (due_of b a) e, lt-leb (count_of b a) 32 h)
-
-  pub entry-right : (a : ℕ) → offset_of b a ≡ due_of b a → count_of b a ≤ 32 → entry_of b a ≡ accepted
-  entry-right a e h = rw (eq-eqb (offset_of b a) (due_of b a) e, le-leb (count_of b a) 32 h)
-
-  -- a loop that is through with the entries knows where the file has to end
-  pub due-last : (n a due : ℕ) → n ≡ actors_of b → a ≤ n → n ≤ a → due ≡ due_of b a → due ≡ due_of b (actors_of b)
-  due-last n a due counted low high e = let all : a ≡ actors_of b = omega arith in e ∙ ap (due_of b) all
-
   module _ (right : each (entry_of b) (actors_of b) 0 ≡ accepted) where
     entry_at : (a : ℕ) → a < actors_of b → entry_of b a ≡ accepted
     entry_at a h = rw zero-add at (each_at (entry_of b) (actors_of b) 0 right a h)

@@ -9,7 +9,7 @@ use Rattle.table.specs.Format.{p_at, q_at, z_at, kind_at, listed_at, value_at, o
 -- a list's z and its four bytes
 abbrev pub numbers_at : List ℕ → ℕ → Numbers
 numbers_at b at =
-    record { count = z_at b at; n0 = listed_at b at 0; n1 = listed_at b at 1; n2 = listed_at b at 2; n3 = listed_at b at 3 }
+    record { count = z_at b at; all = listed_at b at 0 ∷ listed_at b at 1 ∷ listed_at b at 2 ∷ listed_at b at 3 ∷ [] }
 
 -- the action of a kind from the bytes at an offset. No accepted table has a kind above 11.
 unfoldable pub decode_as : ℕ → List ℕ → ℕ → Action

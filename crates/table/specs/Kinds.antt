@@ -1,6 +1,8 @@
 -- The kinds of action, as document 01's table of kinds and the requests of document 02 have them: what p and q name, and what z and b4 to b7 hold.
 -- Assumes nothing.
 use Rattle.std.specs.Prelude.{ℕ, List, [], ◌∷◌, get_or}
+use Rattle.table.specs.declared.Kind.{Kind}
+use Rattle.table.specs.declared.Kind.TheVariants.{Set, Add, Lesser, Send, Receive, TestAny, WaitAny, Lock, Unlock, MutexTest, MutexWait, Note}
 
 -- what p or q names
 pub data Field : Type 0 where
@@ -17,6 +19,21 @@ pub record Form : Type 0 where
 
 abbrev pub form : Field → Field → Rest → Form
 form p q rest = record { p = p; q = q; rest = rest }
+
+-- a kind's number, which is its action's first byte
+abbrev pub kind_number : Kind → ℕ
+kind_number Set = 0
+kind_number Add = 1
+kind_number Lesser = 2
+kind_number Send = 3
+kind_number Receive = 4
+kind_number TestAny = 5
+kind_number WaitAny = 6
+kind_number Lock = 7
+kind_number Unlock = 8
+kind_number MutexTest = 9
+kind_number MutexWait = 10
+kind_number Note = 11
 
 -- the last kind's number
 abbrev pub last_kind : ℕ

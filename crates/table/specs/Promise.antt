@@ -1,6 +1,6 @@
 -- What the layer above may rely on of an accepted table, and nothing else: every count, offset and number in an action is in range.
 -- Assumes nothing.
-use Rattle.std.specs.Prelude.{ℕ, ◌+◌, ◌*◌, ◌<◌, ◌≤◌, ◌≡◌, Bool, true, false, List, [], ◌∷◌, length, get_or}
+use Rattle.std.specs.Prelude.{ℕ, ◌+◌, ◌*◌, ◌<◌, ◌≤◌, ◌≡◌, Bool, true, false, List, length, get_or}
 use Rattle.table.specs.declared.Action.{Action}
 use Rattle.table.specs.declared.Action.TheVariants.{Set, Add, Lesser, Send, Receive, TestAny, WaitAny, Lock, Unlock, MutexTest, MutexWait, Note}
 use Rattle.table.specs.declared.Numbers.{Numbers}
@@ -9,7 +9,7 @@ use Rattle.table.specs.Decode.{action_of}
 
 -- the i-th number of a list
 abbrev pub number : Numbers → ℕ → ℕ
-number l i = get_or (l.n0 ∷ l.n1 ∷ l.n2 ∷ l.n3 ∷ []) i 0
+number l i = get_or l.all i 0
 
 -- a list has one to four numbers, each of which is right
 pub record Listing (Right : ℕ → Type 0) (l : Numbers) : Type 0 where

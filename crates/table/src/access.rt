@@ -1,8 +1,7 @@
-// The counts that stand in a table, read in place; `within` reads its actions. Each function answers for every file and every number: a byte past the end counts as 0.
-ghost use Rattle.std.specs.Prelude.{◌≡◌, ◌+◌, ◌<◌, ◌^◌};
-ghost use Rattle.table.specs.Format.{byte_at, word_at, actors_of, mailboxes_of, mutexes_of, count_of};
-
-use crate::bytes;
+// The counts that stand in a table, read in place; `within` reads its actions. Each function answers for every file and every number: a byte past
+// the end counts as 0.
+ghost use Rattle.std.specs.Prelude.{◌≡◌, ◌<◌};
+ghost use Rattle.table.specs.Format.{byte_at, actors_of, mailboxes_of, mutexes_of, count_of};
 
 // The number of actors.
 pub fn actors(table: &[u8]) -> usize
@@ -32,23 +31,12 @@ pub fn actions(table: &[u8], actor: usize) -> usize
     if table.len() / 4 < actor {
         return 0;
     }
-    word(table, 6 + 4 * actor)
-}
-
-// 16 bits, the lowest byte first.
-fn word(t: &[u8], i: usize) -> usize
-    requires { i + 1 < 2 ^ 64 }
-    ensures { (result ≡ word_at t.now i) × (result < 65536) }
-{
-    byte(t, i) + 256 * byte(t, i + 1)
+    byte(table, 6 + 4 * actor) + 256 * byte(table, 7 + 4 * actor)
 }
 
 // A byte, 0 past the end.
 fn byte(t: &[u8], i: usize) -> usize
     ensures { (result ≡ byte_at t.now i) × (result < 256) }
 {
-    if i < t.len() {
-        return bytes::wide(t[i]);
-    }
-    0
+    t.get(i).map_or(0, |b| usize::from(*b))
 }

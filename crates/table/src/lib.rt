@@ -1,22 +1,20 @@
-// The task table: its actions, the reader's answers, and what stands in an accepted table, read in place.
+// The task table: its actions, the reader's refusals, and what stands in an accepted table, read in place.
 #![tactic(auto)]
 
-ghost use Rattle.std.specs.Prelude.{◌≡◌};
-ghost use Rattle.table.specs.Outcome.{number_of, position_of};
-ghost use Rattle.table.specs.Answer.{outcome};
+ghost use Rattle.std.specs.Prelude.{◌≡◌, ◌<◌, MatchResult};
+ghost use Rattle.table.specs.Outcome.{demand as demanded, number_of, position_of};
+ghost use Rattle.table.specs.Kinds.{kind_number, last_kind};
+ghost use Rattle.table.specs.Answer.{fault_of, outcome};
 
 pub mod access;
 pub mod bytes;
 pub mod within;
 
-// The numbers that a list names: the first `count` of the four.
+// The numbers that a list names: the first `count` of `all`. No heap, so a list of at most four is an array with its count.
 #[derive(Clone, Copy)]
 pub struct Numbers {
     pub count: usize,
-    pub n0: usize,
-    pub n1: usize,
-    pub n2: usize,
-    pub n3: usize,
+    pub all: [usize; 4],
 }
 
 // An action, decoded.
@@ -36,10 +34,63 @@ pub enum Action {
     Note { cell: usize },
 }
 
-// What the reader finds: the table is accepted, or the first thing that is wrong, with the offset of the action that it is in.
-#[derive(Clone, Copy)]
-pub enum Reading {
-    Valid,
+// An action's kind, in the order of their numbers.
+#[derive(Clone, Copy, Debug, PartialEq, Eq)]
+pub enum Kind {
+    Set,
+    Add,
+    Lesser,
+    Send,
+    Receive,
+    TestAny,
+    WaitAny,
+    Lock,
+    Unlock,
+    MutexTest,
+    MutexWait,
+    Note,
+}
+
+impl Kind {
+    // Document 01's number of the kind, an action's first byte.
+    pub fn number(self) -> usize
+        ensures { result ≡ kind_number self }
+    {
+        self as usize
+    }
+}
+
+// A byte that is no kind's number.
+#[derive(Clone, Copy, Debug, PartialEq, Eq)]
+pub struct UnknownKind;
+
+impl TryFrom<u8> for Kind {
+    type Error = UnknownKind;
+
+    ghost try_from_gives = { λ byte r. MatchResult r (λ kind. kind_number kind ≡ byte) (λ _. last_kind < byte) };
+
+    fn try_from(byte: u8) -> Result<Kind, UnknownKind> {
+        match byte {
+            0 => Ok(Kind::Set),
+            1 => Ok(Kind::Add),
+            2 => Ok(Kind::Lesser),
+            3 => Ok(Kind::Send),
+            4 => Ok(Kind::Receive),
+            5 => Ok(Kind::TestAny),
+            6 => Ok(Kind::WaitAny),
+            7 => Ok(Kind::Lock),
+            8 => Ok(Kind::Unlock),
+            9 => Ok(Kind::MutexTest),
+            10 => Ok(Kind::MutexWait),
+            11 => Ok(Kind::Note),
+            _ => Err(UnknownKind),
+        }
+    }
+}
+
+// The first thing that is wrong with a table, with the offset of the action that it is in.
+#[derive(Clone, Copy, Debug, PartialEq, Eq)]
+pub enum Fault {
     Short,
     Edition,
     Counts,
@@ -51,40 +102,38 @@ pub enum Reading {
     Unused(u32),
 }
 
-impl Reading {
-    // Document 01's number of the refusal, 0 where the table is accepted.
+impl Fault {
+    // Document 01's number of the refusal.
     pub fn number(self) -> u32
-        ensures { result ≡ number_of (outcome self) }
+        ensures { result ≡ number_of (fault_of self) }
     {
         match self {
-            Reading::Valid => 0,
-            Reading::Short => 1,
-            Reading::Edition => 2,
-            Reading::Counts => 3,
-            Reading::Directory => 4,
-            Reading::Length => 5,
-            Reading::Kind(_) => 6,
-            Reading::Range(_) => 7,
-            Reading::Listed(_) => 8,
-            Reading::Unused(_) => 9,
+            Fault::Short => 1,
+            Fault::Edition => 2,
+            Fault::Counts => 3,
+            Fault::Directory => 4,
+            Fault::Length => 5,
+            Fault::Kind(_) => 6,
+            Fault::Range(_) => 7,
+            Fault::Listed(_) => 8,
+            Fault::Unused(_) => 9,
         }
     }
 
-    // The refusal's position, 0 where the table is accepted.
+    // The refusal's position, 0 where it is in no action.
     pub fn position(self) -> u32
-        ensures { result ≡ position_of (outcome self) }
+        ensures { result ≡ position_of (fault_of self) }
     {
         match self {
-            Reading::Valid => 0,
-            Reading::Short => 0,
-            Reading::Edition => 0,
-            Reading::Counts => 0,
-            Reading::Directory => 0,
-            Reading::Length => 0,
-            Reading::Kind(at) => at,
-            Reading::Range(at) => at,
-            Reading::Listed(at) => at,
-            Reading::Unused(at) => at,
+            Fault::Short | Fault::Edition | Fault::Counts | Fault::Directory | Fault::Length => 0,
+            Fault::Kind(at) | Fault::Range(at) | Fault::Listed(at) | Fault::Unused(at) => at,
         }
     }
+}
+
+// One check: the condition, or the fault that it is where it fails.
+pub fn demand(condition: bool, fault: Fault) -> Result<(), Fault>
+    ensures { outcome result ≡ demanded condition (number_of (fault_of fault)) (position_of (fault_of fault)) }
+{
+    if condition { Ok(()) } else { Err(fault) }
 }

@@ -12,22 +12,22 @@ use Rattle.model.proofs.Columns.{length-right}
 use Rattle.writing.specs.Written.{Wrote}
 use Rattle.writing.proofs.Written.{written-length}
 
--- of a number's digits the last ones stand in the columns after i of a part that was e, and those of `rest` are to come
+-- of a number's digits the last ones stand behind the first i columns of a part that was e, and those of `rest` are to come
 pub record Filling (e : List ℕ) (x : ℕ) (b : List ℕ) (rest i : ℕ) : Type 0 where
   pub room : 11 ≤ length e
   pub last : List ℕ
   pub split : decimal x ≡ decimal rest ++ last
-  pub held : b ≡ replicate (suc i) space ++ (last ++ drop 11 e)
-  pub counted : i + length last ≡ 10
-  pub least : 1 ≤ i
-  pub small : rest < 10 ^ i
+  pub held : b ≡ replicate i space ++ (last ++ drop 11 e)
+  pub counted : i + length last ≡ 11
+  pub small : rest < 10 ^ (i - 1)
+  pub more : i < 11 → 1 ≤ rest
 
 -- eleven spaces written over a part e
 module _ (e m : List ℕ) {at : ℕ} (w : Wrote e (replicate 11 space) m at) where
   after : drop 11 m ≡ drop 11 e
   after = ap (drop 11) w.1
 
-  pub filling-start : (x : ℕ) → 11 ≤ length e → x < 2 ^ 32 → Filling m x m x 10
+  pub filling-start : (x : ℕ) → 11 ≤ length e → x < 2 ^ 32 → Filling m x m x 11
   filling-start x room h =
       record {
         room = omega (arith, written-length e (replicate 11 space) m room w.1);
@@ -35,8 +35,8 @@ module _ (e m : List ℕ) {at : ℕ} (w : Wrote e (replicate 11 space) m at) whe
         split = sym (append-nil (decimal x));
         held = w.1 ∙ ap (λ (l : List ℕ). replicate 11 space ++ l) (sym after);
         counted = refl;
-        least = omega arith;
         small = omega arith;
+        more = λ h. omega arith;
       }
 
   -- what is written over them is written over e
@@ -56,46 +56,54 @@ tenth rest (suc i) h g =
     let bound : rest < 10 * 10 ^ i = subst (λ (n : ℕ). rest < n) whole g in
     rw less (omega arith)
 
-two-left : (rest i : ℕ) → 1 ≤ i → 10 ≤ rest → rest < 10 ^ i → 2 ≤ i
-two-left rest zero h b g = absurd (omega arith)
-two-left rest (suc zero) h b g = absurd (omega arith)
-two-left rest (suc (suc i)) h b g = omega arith
-
 module _ {e : List ℕ} {x : ℕ} {b : List ℕ} {rest i : ℕ} (F : Filling e x b rest i) where
-  -- the part keeps its length, and column i is in it
+  -- the part keeps its length, and column i - 1 is in it
   filling-length : length b ≡ length e
   filling-length =
       ap length F.held ∙ simp (length-append, length-replicate, length-drop) (omega (arith, F.room, F.counted))
 
-  pub column-in : i < length b
-  column-in = omega (arith, filling-length, F.room, F.counted)
+  pub column-in : 1 < i → i - 1 < length b
+  column-in h = omega (arith, filling-length, F.room, F.counted)
 
-  pub filling-more : 10 ≤ rest → (d : ℕ) → d ≡ digit (rest % 10) → Filling e x (set b i d) (rest / 10) (i - 1)
-  filling-more big d g =
-      let two : 2 ≤ i = two-left rest i F.least big F.small in
-      let up : suc (i - 1) ≡ i = omega arith in
-      record {
-        room = F.room;
-        last = d ∷ F.last;
-        split =
-            F.split ∙ ap (λ (l : List ℕ). l ++ F.last) (decimal-more rest big) ∙ append_assoc (decimal (rest / 10)) (digit (rest % 10) ∷ []) F.last
-            ∙ ap (λ (c : ℕ). decimal (rest / 10) ++ (c ∷ F.last)) (sym g);
-        held =
-            ap (λ (t : List ℕ). set t i d) F.held ∙ set_last i d (F.last ++ drop 11 e)
-            ∙ ap (λ (n : ℕ). replicate n space ++ (d ∷ (F.last ++ drop 11 e))) (sym up);
-        counted = omega (arith, F.counted);
-        least = omega arith;
-        small = tenth rest i F.least F.small;
-      }
+  -- not all of the columns are filled while digits are to come
+  pub filling-over : i ≤ 1 → ⊥
+  filling-over h =
+      let none : i - 1 ≡ 0 = omega arith in
+      let few : rest < 10 ^ 0 = subst (λ (n : ℕ). rest < 10 ^ n) none F.small in
+      omega (arith, few, F.more)
 
-  pub filling-end : rest < 10 → (d : ℕ) → d ≡ digit rest
-      → (length (space ∷ right 10 (decimal x)) ≡ 11) × (set b i d ≡ (space ∷ right 10 (decimal x)) ++ drop 11 e)
-  filling-end few d g =
-      let whole : decimal x ≡ d ∷ F.last = F.split ∙ ap (λ (l : List ℕ). l ++ F.last) (decimal-small rest few) ∙ ap (λ (c : ℕ). c ∷ F.last) (sym g) in
-      let spaces : i ≡ suc (10 - length (decimal x)) = omega (arith, ap length whole, F.counted, F.least) in (
-        ap suc (length-right 10 (decimal x) (omega (arith, ap length whole, F.counted, F.least))),
-        ap (λ (t : List ℕ). set t i d) F.held ∙ set_last i d (F.last ++ drop 11 e)
-            ∙ ap (λ (n : ℕ). replicate n space ++ ((d ∷ F.last) ++ drop 11 e)) spaces
-            ∙ ap (λ (l : List ℕ). replicate (suc (10 - length (decimal x))) space ++ (l ++ drop 11 e)) (sym whole)
-            ∙ sym (append_assoc (replicate (suc (10 - length (decimal x))) space) (decimal x) (drop 11 e)),
-      )
+  module _ (left : 1 < i) (d : ℕ) where
+    set-next : set b (i - 1) d ≡ replicate (i - 1) space ++ (d ∷ (F.last ++ drop 11 e))
+    set-next =
+        let up : suc (i - 1) ≡ i = omega arith in
+        ap (λ (t : List ℕ). set t (i - 1) d) (F.held ∙ ap (λ (n : ℕ). replicate n space ++ (F.last ++ drop 11 e)) (sym up))
+        ∙ set_last (i - 1) d (F.last ++ drop 11 e)
+
+    pub filling-more : (rest / 10 ≡ 0 → ⊥) → d ≡ digit (rest % 10) → Filling e x (set b (i - 1) d) (rest / 10) (i - 1)
+    filling-more some g =
+        let big : 10 ≤ rest = omega arith in
+        record {
+          room = F.room;
+          last = d ∷ F.last;
+          split =
+              F.split ∙ ap (λ (l : List ℕ). l ++ F.last) (decimal-more rest big) ∙ append_assoc (decimal (rest / 10)) (digit (rest % 10) ∷ []) F.last
+              ∙ ap (λ (c : ℕ). decimal (rest / 10) ++ (c ∷ F.last)) (sym g);
+          held = set-next;
+          counted = omega (arith, F.counted);
+          small = tenth rest (i - 1) (omega arith) F.small;
+          more = λ h. omega arith;
+        }
+
+    pub filling-end : rest / 10 ≡ 0 → d ≡ digit (rest % 10)
+        → (length (space ∷ right 10 (decimal x)) ≡ 11) × (set b (i - 1) d ≡ (space ∷ right 10 (decimal x)) ++ drop 11 e)
+    filling-end none g =
+        let few : rest < 10 = omega arith in
+        let own : rest % 10 ≡ rest = omega arith in
+        let whole : decimal x ≡ d ∷ F.last = F.split ∙ ap (λ (l : List ℕ). l ++ F.last) (decimal-small rest few) ∙ ap (λ (c : ℕ). c ∷ F.last) (sym (g ∙ ap digit own)) in
+        let spaces : i - 1 ≡ suc (10 - length (decimal x)) = omega (arith, ap length whole, F.counted) in (
+          ap suc (length-right 10 (decimal x) (omega (arith, ap length whole, F.counted))),
+          set-next
+              ∙ ap (λ (n : ℕ). replicate n space ++ ((d ∷ F.last) ++ drop 11 e)) spaces
+              ∙ ap (λ (l : List ℕ). replicate (suc (10 - length (decimal x))) space ++ (l ++ drop 11 e)) (sym whole)
+              ∙ sym (append_assoc (replicate (suc (10 - length (decimal x))) space) (decimal x) (drop 11 e)),
+        )

@@ -6,7 +6,7 @@ use Prim.Native.Nat.{ℕ, ◌-◌, ◌≤◌}
 use native.Mathlib.Omega.{arith}
 use lib.ListN.{length, take, replicate, length-append}
 use lib.Seq.{take-append_seam, length-take-le}
-use Rattle.listing.specs.declared.Listing.{Listing}
+use Rattle.listing.specs.declared.laid.Listing.{Listing}
 use Rattle.listing.specs.Laid.{Laid}
 
 module _ (text : List ℕ) (r : Listing) (l : Laid text r) where

@@ -2,19 +2,12 @@
 // file that is there and cannot be read it says why, on standard error, and prints no listing.
 #![tactic(auto)]
 
-ghost use Rattle.std.specs.Prelude.{◌≡◌, List, ℕ, ◌≤◌, length, take};
+ghost use Rattle.std.specs.Prelude.{◌≡◌, List, ℕ, ◌≤◌, length, take, IfSome, IfOk};
 ghost use Rattle.model.specs.Listing.{listing_of};
 
 use std::fs::File;
 use std::io;
 use std::io::{ErrorKind, Read, Write};
-
-// How many bytes of a file came, and whether reading it failed.
-#[derive(Clone, Copy)]
-struct Came {
-    count: usize,
-    failed: bool,
-}
 
 // No more of a file is read than decides its listing.
 fn main(rt: HostRuntime) {
@@ -22,22 +15,14 @@ fn main(rt: HostRuntime) {
     let mut schedule = [0u8; 257];
     let site = fetch(&rt, "site.tab", &mut table);
     let order = fetch(&rt, "order.sch", &mut schedule);
-    if site.failed {
-        return;
+    if let (Some(n), Some(m)) = (site, order) {
+        print(&rt, &table[..n], &schedule[..m]);
     }
-    if order.failed {
-        return;
-    }
-    let n = site.count;
-    let m = order.count;
-    print(&rt, &table[..n], &schedule[..m]);
 }
 
 fn print(rt: &HostRuntime, table: &[u8], schedule: &[u8]) {
     let laid = listing::lay(table, schedule);
-    let bytes = laid.bytes;
-    let n = laid.length;
-    emit(rt, &bytes[..n], table, schedule);
+    emit(rt, laid.text(), table, schedule);
 }
 
 // The only bytes that go to standard output: the listing of the bytes that were read, and of any two files that begin with them, cut where the
@@ -52,77 +37,43 @@ fn emit(rt: &HostRuntime, text: &[u8], table: &[u8], schedule: &[u8])
     }
 }
 
-// The beginning of a file, as much as the buffer holds.
-fn fetch(rt: &HostRuntime, path: &str, buf: &mut [u8]) -> Came
-    ensures { result.count ≤ length buf.new }
+// How many bytes of a file came, if none failed to: a failure is said on standard error.
+fn fetch(rt: &HostRuntime, path: &str, buf: &mut [u8]) -> Option<usize>
+    ensures { IfSome result (λ n. n ≤ length buf.new) }
 {
-    match File::open(rt, path) {
-        Ok(mut file) => fill(rt, path, &mut file, buf),
-        Err(error) => unopened(rt, path, &error),
+    match read(rt, path, buf) {
+        Ok(count) => Some(count),
+        Err(error) => {
+            fail(rt, path, &error);
+            None
+        }
     }
 }
 
-// An absent file reads as empty.
-fn unopened(rt: &HostRuntime, path: &str, error: &io::Error) -> Came
-    ensures { result.count ≡ 0 }
+// The beginning of a file, as much as the buffer holds. An absent file reads as empty.
+fn read(rt: &HostRuntime, path: &str, buf: &mut [u8]) -> io::Result<usize>
+    ensures { IfOk result (λ n. n ≤ length buf.new) }
 {
-    if error.kind() == ErrorKind::NotFound {
-        return Came {
-            count: 0,
-            failed: false,
-        };
-    }
-    fail(rt, path, error);
-    Came {
-        count: 0,
-        failed: true,
+    match File::open(rt, path) {
+        Ok(mut file) => fill(&mut file, buf),
+        Err(error) if error.kind() == ErrorKind::NotFound => Ok(0),
+        Err(error) => Err(error),
     }
 }
 
 // Reads until the buffer is full, the file ends or a read fails.
-fn fill(rt: &HostRuntime, path: &str, file: &mut File, buf: &mut [u8]) -> Came
-    ensures { result.count ≤ length buf.new }
+fn fill(file: &mut File, buf: &mut [u8]) -> io::Result<usize>
+    ensures { IfOk result (λ n. n ≤ length buf.new) }
 {
     let mut at = 0;
     while at < buf.len() {
-        let more = read_once(rt, path, file, &mut buf[at..]);
-        let n = more.count;
-        if more.failed {
-            return Came {
-                count: at,
-                failed: true,
-            };
+        let count = file.read(&mut buf[at..])?;
+        if count == 0 {
+            break;
         }
-        if n == 0 {
-            return Came {
-                count: at,
-                failed: false,
-            };
-        }
-        at += n;
+        at += count;
     }
-    Came {
-        count: at,
-        failed: false,
-    }
-}
-
-fn read_once(rt: &HostRuntime, path: &str, file: &mut File, part: &mut [u8]) -> Came
-    ensures { result.count ≤ length part.new }
-{
-    match file.read(part) {
-        Ok(count) => Came {
-            count,
-            failed: false,
-        },
-        Err(error) => {
-            fail(rt, path, &error);
-            Came {
-                count: 0,
-                failed: true,
-            }
-        }
-    }
+    Ok(at)
 }
 
 // Says on standard error why something could not be read or written, in the system's words; where that can't be said, nothing.

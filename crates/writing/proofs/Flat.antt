@@ -1,12 +1,12 @@
 -- Bytes made of each element of a list from a place on: part by part, as a loop writes them, and one after another.
 -- Assumes nothing.
-use mathlib.Core.Path.{◌≡◌, refl, ◌∙◌, ap, sym}
+use mathlib.Core.Path.{◌≡◌, refl, ◌∙◌, ap, sym, fun_ext}
 use mathlib.Core.List.{List, [], ◌∷◌, ◌++◌}
 use Prim.Native.Nat.{ℕ, zero, suc, ◌+◌, ◌≤◌}
 use native.Mathlib.Nat.{add-zero, add-suc}
 use native.Mathlib.Omega.{arith}
 use lib.ListN.{length, get_or, take, drop}
-use lib.Seq.{drop-cons}
+use lib.Seq.{drop-cons, take-length}
 use Rattle.model.specs.Report.{parts}
 
 -- the bytes `g x` of each element x
@@ -22,3 +22,9 @@ flat-from g l from (suc n) k h =
 
 pub flat-at : (g : ℕ → List ℕ) (l : List ℕ) (from n : ℕ) → from + n ≤ length l → parts (λ i. g (get_or l (from + i) 0)) n 0 ≡ flat g (take n (drop from l))
 flat-at g l from n h = flat-from g l from n 0 (omega arith) ∙ ap (λ (j : ℕ). flat g (take n (drop j l))) (add-zero from)
+
+-- of a whole list
+pub flat-whole : (g : ℕ → List ℕ) (l : List ℕ) → parts (λ i. g (get_or l i 0)) (length l) 0 ≡ flat g l
+flat-whole g l =
+    let at-zero : ◌≡◌ {A = ℕ → List ℕ} (λ i. g (get_or l i 0)) (λ i. g (get_or l (0 + i) 0)) = fun_ext (λ i. let e : i ≡ 0 + i = omega arith in ap (λ (j : ℕ). g (get_or l j 0)) e) in
+    ap (λ (f : ℕ → List ℕ). parts f (length l) 0) at-zero ∙ flat-at g l 0 (length l) (omega arith) ∙ ap (flat g) (take-length l)

@@ -2,6 +2,5 @@
 pub mod Written
 pub mod Loops
 pub mod Sections
-pub mod Stored
 pub mod Flat
 pub mod Texts

@@ -1,16 +1,15 @@
 -- A loop that writes one part after another, each into the rest after the parts before it.
 -- Assumes nothing.
-use mathlib.Core.Path.{◌≡◌, refl, ◌∙◌, ap, sym, subst}
-use mathlib.Core.List.{List, [], ◌∷◌, ◌++◌, append_assoc, append-nil}
+use mathlib.Core.Path.{◌≡◌, ◌∙◌, ap, sym, subst}
+use mathlib.Core.List.{List, ◌++◌, append_assoc, append-nil}
 use Prim.Native.Nat.{ℕ, zero, suc, ◌+◌, ◌-◌, ◌<◌, ◌≤◌}
-use native.Mathlib.Nat.{add-zero, zero-add, add-suc, suc-add, le_antisymm, le_refl}
+use native.Mathlib.Nat.{add-zero, zero-add, add-suc, suc-add, le_refl}
 use native.Mathlib.Numerals.{add-one}
 use native.Mathlib.Omega.{arith}
-use borrow.Rule.Slice.PartMut.{set_mid_at}
-use lib.ListN.{length, set, length-append}
+use lib.ListN.{length, length-append}
 use Rattle.model.specs.Report.{parts}
 use Rattle.writing.specs.Written.{Wrote}
-use Rattle.writing.proofs.Written.{rest, joined, rest-room, written-length, wrote_then, wrote_stores}
+use Rattle.writing.proofs.Written.{rest, joined, rest-room, written-length, wrote_then}
 
 -- one part more, at the end
 parts_last : (f : ℕ → List ℕ) (n k : ℕ) → parts f (suc n) k ≡ parts f n k ++ f (k + n)
@@ -36,9 +35,6 @@ pub record Turn (f : ℕ → List ℕ) (n : ℕ) (e : List ℕ) (k : ℕ) (b : L
   pub most : k ≤ n
   pub wrote : Wrote e (parts f k 0) b at
 
-pub first-turn : {f : ℕ → List ℕ} {n : ℕ} {e : List ℕ} → length (parts f n 0) ≤ length e → Turn f n e 0 e 0
-first-turn {n = n} h = record { room = h; most = omega arith; wrote = (refl, refl) }
-
 module _ {f : ℕ → List ℕ} {n : ℕ} {e : List ℕ} {k : ℕ} {b : List ℕ} {at : ℕ} (t : Turn f n e k b at) where
   within : k < n → length (parts f k 0) + length (f k) ≤ length e
   within h =
@@ -47,37 +43,16 @@ module _ {f : ℕ → List ℕ} {n : ℕ} {e : List ℕ} {k : ℕ} {b : List ℕ
       omega (arith, t.room)
 
   -- before the next part
-  pub next_fits : k < n → at + length (f k) ≤ length b
+  next_fits : k < n → at + length (f k) ≤ length b
   next_fits h =
       let g : length (parts f k 0) + length (f k) ≤ length e = within h in
       let same : length b ≡ length e = written-length e (parts f k 0) b (omega arith) t.wrote.1 in
       omega (arith, t.wrote.0)
 
-  pub next-at : k < n → at ≤ length b
-  next-at h = omega (arith, next_fits h)
-
   pub next-room : k < n → length (f k) ≤ length (rest at b)
   next-room h = rest-room at (length (f k)) b (next_fits h)
 
   -- after it
-  pub next-sum : {m : ℕ} → k < n → m ≡ length (f k) → at + m ≤ length e
-  next-sum h g = omega (arith, within h, t.wrote.0)
-
   pub next-turn : {p : List ℕ} {m : ℕ} → k < n → Wrote (rest at b) (f k) p m → Turn f n e (k + 1) (joined at b p) (at + m)
   next-turn {p} {m} h v =
       record { room = t.room; most = omega arith; wrote = rw (parts_more f k) (wrote_then e (parts f k 0) b (f k) p at m t.wrote v) }
-
-  -- the same of a part of one byte, stored in its place
-  pub next-store : {x : ℕ} → k < n → f k ≡ x ∷ [] → Turn f n e (k + 1) (set b at x) (at + 1)
-  next-store {x} h g =
-      let one : 1 ≤ length (rest at b) = subst (λ (l : List ℕ). length l ≤ length (rest at b)) g (next-room h) in
-      let stored : Wrote (rest at b) (f k) (set (rest at b) 0 x) 1 = subst (λ (l : List ℕ). Wrote (rest at b) l (set (rest at b) 0 x) 1) (sym g) (wrote_stores (x ∷ []) (rest at b) one) in
-      let place : joined at b (set (rest at b) 0 x) ≡ set b at x = set_mid_at at (length b - at) 0 b x one ∙ ap (λ (j : ℕ). set b j x) (add-zero at) in
-      subst (λ (l : List ℕ). Turn f n e (k + 1) l (at + 1)) place (next-turn h stored)
-
-  -- after the last
-  pub all-wrote : n ≤ k → Wrote e (parts f n 0) b at
-  all-wrote h = subst (λ (m : ℕ). Wrote e (parts f m 0) b at) (le_antisymm t.most h) t.wrote
-
-  pub all-length : n ≤ k → length b ≡ length e
-  all-length h = written-length e (parts f n 0) b t.room (all-wrote h).1

@@ -37,9 +37,6 @@ module _ {whole e b : List ℕ} {at : ℕ} {left : List ℕ} (g : Begun whole e 
   left-room = rest-room at (length left) b left-fits
 
   -- after the last
-  pub last_sum : {m : ℕ} → m ≡ length left → at + m ≤ length e
-  last_sum h = omega (arith, within)
-
   pub last-wrote : {p : List ℕ} {m : ℕ} → Wrote (rest at b) left p m → Wrote e whole (joined at b p) (at + m)
   last-wrote {p} {m} v = subst (λ (s : List ℕ). Wrote e s (joined at b p) (at + m)) (sym g.split) (wrote_then e g.front b left p at m g.wrote v)
 
@@ -47,9 +44,6 @@ module _ {whole e b : List ℕ} {at : ℕ} {left : List ℕ} (g : Begun whole e 
 module _ (s left : List ℕ) {whole e b : List ℕ} {at : ℕ} (g : Begun whole e b at (s ++ left)) where
   pub section-room : length s ≤ length (rest at b)
   section-room = omega (arith, left-room g, length-append s left)
-
-  pub section-sum : {m : ℕ} → m ≡ length s → at + m ≤ length e
-  section-sum h = omega (arith, within g, length-append s left)
 
   pub next-section : {p : List ℕ} {m : ℕ} → Wrote (rest at b) s p m → Begun whole e (joined at b p) (at + m) left
   next-section {p} {m} v =

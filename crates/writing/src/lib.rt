@@ -2,39 +2,26 @@
 // part that it is lent, and answers with their number.
 #![tactic(auto)]
 
-ghost use Rattle.std.specs.Prelude.{◌∷◌, [], ◌≤◌, length};
-ghost use Rattle.model.specs.Report.{long};
+ghost use Rattle.std.specs.Prelude.{◌≡◌, ℕ, ◌/◌, ◌%◌, List, ◌∷◌, [], ◌<◌, ◌≤◌, length};
+ghost use Rattle.model.specs.Report.{word, long, parts};
 ghost use Rattle.writing.specs.Written.{Wrote};
 
-// One byte.
-pub fn one(a: u8, buf: &mut [u8]) -> usize
-    requires { 1 ≤ length buf.old }
-    ensures { Wrote buf.old (a ∷ []) buf.new result }
+// These bytes.
+pub fn put(bytes: &[u8], buf: &mut [u8]) -> usize
+    requires { length bytes.now ≤ length buf.old }
+    ensures { Wrote buf.old bytes.now buf.new result }
 {
-    buf[0] = a;
-    1
+    let size = bytes.len();
+    buf[..size].copy_from_slice(bytes);
+    size
 }
 
-// Two bytes.
-pub fn two(a: u8, b: u8, buf: &mut [u8]) -> usize
+// 16 bits, the lowest byte first.
+pub fn short(x: u16, buf: &mut [u8]) -> usize
     requires { 2 ≤ length buf.old }
-    ensures { Wrote buf.old (a ∷ b ∷ []) buf.new result }
+    ensures { Wrote buf.old (word x) buf.new result }
 {
-    buf[0] = a;
-    buf[1] = b;
-    2
-}
-
-// Four bytes.
-pub fn four(a: u8, b: u8, c: u8, d: u8, buf: &mut [u8]) -> usize
-    requires { 4 ≤ length buf.old }
-    ensures { Wrote buf.old (a ∷ b ∷ c ∷ d ∷ []) buf.new result }
-{
-    buf[0] = a;
-    buf[1] = b;
-    buf[2] = c;
-    buf[3] = d;
-    4
+    put(&x.to_le_bytes(), buf)
 }
 
 // 32 bits, the lowest byte first.
@@ -42,11 +29,27 @@ pub fn number(x: u32, buf: &mut [u8]) -> usize
     requires { 4 ≤ length buf.old }
     ensures { Wrote buf.old (long x) buf.new result }
 {
-    four(
-        (x % 256) as u8,
-        (x / 256 % 256) as u8,
-        (x / 65536 % 256) as u8,
-        (x / 16777216 % 256) as u8,
-        buf,
-    )
+    put(&x.to_le_bytes(), buf)
+}
+
+// The actor and the action of a step's name that stands in one byte.
+pub fn name(x: u8) -> [u8; 2]
+    ensures { result ≡ x / 32 ∷ x % 32 ∷ [] }
+{
+    [x / 32, x % 32]
+}
+
+// The parts of the numbers below n, one after another. Part k has the bytes `bytes k`.
+pub fn each<F: Fn(usize, &mut [u8]) -> usize>(n: usize, part: F, buf: &mut [u8]) -> usize
+    ghost bytes: { ℕ → List ℕ }
+    requires room { length (parts bytes n 0) ≤ length buf.old }
+    requires callable { (k : ℕ) (b : _) → k < n → length (bytes k) ≤ length b.now → F.pre part k b }
+    requires wrote { (k : ℕ) (b : _) (r : ℕ) (after : _) → k < n → F.post part k b r after → Wrote b.now (bytes k) after.now r }
+    ensures { Wrote buf.old (parts bytes n 0) buf.new result }
+{
+    let mut at = 0;
+    for k in 0..n {
+        at += part(k, &mut buf[at..]);
+    }
+    at
 }

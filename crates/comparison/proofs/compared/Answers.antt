@@ -1,23 +1,17 @@
--- `comparison::compared` meets its contract: a table that is refused, or a first schedule that halts early, decides; after an accepted one the second
--- follows.
+-- `comparison::compared` meets its contract: what is refused decides, and two accepted schedules are judged.
 -- Assumes nothing.
-use mathlib.Core.Path.{refl, ◌∙◌, ap, sym}
-use Rattle.table.specs.Read.{read_of}
-use Rattle.table.specs.Answer.{outcome}
-use Rattle.table.proofs.Checks.{then-refused}
-use Rattle.table.proofs.Readings.{refusing}
-use Rattle.model.specs.Schedule.{first_numbers}
-use Rattle.play.specs.Parts.{halt_of}
-use Rattle.answers.proofs.Stops.{stop-refused}
-use Rattle.comparison.proofs.SameOutcomes.{compared-refused, first-refused}
+use Rattle.std.proofs.Common.{rules}
+use Rattle.comparison.proofs.SameOutcomes.{compared-right}
 use Rattle.comparison.proofs.compared.Goals as goal
 
-pub returns-in_default : goal.returns-in_default
-returns-in_default c =
-    compared-refused refl
-    (then-refused (read_of c.args.table.now) _ _ _ (sym c.read-reading.ensures.result_value ∙ refusing c.read-reading.result c.in_default.not-Valid))
+pub returns-in_err-read : goal.returns-in_err-read
+returns-in_err-read c = compared-right c.from_residual.result (search rules)
 
-pub returns-in-At : goal.returns-in-At
-returns-in-At c =
-    first-refused refl (sym c.read-reading.ensures.result_value ∙ ap outcome c.in-Valid.is)
-    (sym (c.trace_of-halt.ensures.halted first_numbers) ∙ ap (halt_of first_numbers) c.in-At.is ∙ stop-refused first_numbers c.in-At.stop)
+pub returns-in_err-map_err : goal.returns-in_err-map_err
+returns-in_err-map_err c = compared-right c.from_residual-in_err-map_err.result (search rules)
+
+pub returns-in_err-map_err-2 : goal.returns-in_err-map_err-2
+returns-in_err-map_err-2 c = compared-right c.from_residual-in_err-map_err-2.result (search rules)
+
+pub returns : goal.returns
+returns c = compared-right _ (search rules)

@@ -7,4 +7,5 @@ use Rattle.dependence.proofs.code.Goals as goal
 pub returns : goal.returns
 unfolding code_of
 returns c =
-    (rw (straight c.args.i c.args.j c.requires.0 c.requires.1), rw (turned c.args.i c.args.j c.requires.0 c.requires.1))
+    let x = c.args in
+    (rw (straight x.i x.j c.number.ensures c.number-2.ensures), rw (turned x.i x.j c.number.ensures c.number-2.ensures))

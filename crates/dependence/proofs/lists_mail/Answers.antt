@@ -1,40 +1,31 @@
--- `dependence::lists_mail` meets its contract: the list's places, one after the other.
+-- `dependence::lists_mail` meets its contract: the test of the list's numbers.
 -- Assumes nothing.
+use mathlib.Core.Path.{◌∙◌}
+use borrow.Author.Tests.{tests}
 use Prim.Native.Nat.{ℕ}
 use mathlib.Core.Bool.{Bool}
-use native.Mathlib.Omega.{arith}
-use lib.Dec.{lit<}
+use Rattle.std.proofs.Common.{rules}
+use Rattle.std.proofs.lemmas.Iterator.{YieldsList-from_slice, YieldsList-from_take}
+use Rattle.std.proofs.lemmas.Iterator.Search.{any_from_yields_List}
+use Rattle.std.proofs.lemmas.Iterator.Adapters.{serves_from_places}
 use Rattle.table.specs.Decode.{action_of}
-use Rattle.model.specs.Site.{name}
-use Rattle.dependence.specs.Codes.{is_on}
 use Rattle.names.specs.Steps.{Stands}
-use Rattle.dependence.proofs.ListPlaces.{at-fourth}
-use Rattle.names.proofs.Listed.{listed_at}
+use Rattle.model.specs.Site.{name}
+use Rattle.model.specs.Views.{listed}
+use Rattle.dependence.specs.Codes.{is_on}
+use Rattle.dependence.proofs.ListTests.{any-listed, each-at}
 use Rattle.dependence.proofs.lists_mail.Goals as goal
 
-pub mail_at-requires : goal.mail_at-requires
-mail_at-requires c =
+pub any-requires-clause-callable : goal.any-requires-clause-callable
+any-requires-clause-callable c =
     let x = c.args in
-    let p = c.requires in
-    (p.0, λ h. listed_at (λ k. Stands x.table.now (name x.a k)) x.list 0 p.1 (lit< tt) (omega (arith, h)))
-
-pub mail_at-requires-2 : goal.mail_at-requires-2
-mail_at-requires-2 c =
-    let x = c.args in
-    let p = c.requires in
-    (p.0, λ h. listed_at (λ k. Stands x.table.now (name x.a k)) x.list 1 p.1 (lit< tt) (omega (arith, h)))
-
-pub mail_at-requires-3 : goal.mail_at-requires-3
-mail_at-requires-3 c =
-    let x = c.args in
-    let p = c.requires in
-    (p.0, λ h. listed_at (λ k. Stands x.table.now (name x.a k)) x.list 2 p.1 (lit< tt) (omega (arith, h)))
+    serves_from_places (YieldsList-from_take x.list.count (YieldsList-from_slice x.list.all cc) cc)
+    (λ k q e. search rules)
+    (λ k i h e. let s : Stands x.table.now (name x.a k.now) = rw e (each-at (λ n. Stands x.table.now (name x.a n)) (listed x.list) i k.now c.requires.1 h) in search rules)
 
 pub returns : goal.returns
 returns c =
     let x = c.args in
     let test : ℕ → Bool = λ k. is_on x.kind x.m (action_of x.table.now x.a k) in
-    at-fourth test x.list
-    c.mail_at.ensures c.if-mail_at.false
-    c.mail_at-2.ensures c.if-mail_at-2.false
-    c.mail_at-3.ensures c.if-mail_at-3.false c.mail_at-4.ensures
+    any_from_yields_List test _ _ c.any.result c.any.ensures.ran (YieldsList-from_take x.list.count (YieldsList-from_slice x.list.all cc) cc) (λ n b q k. search (rules, tests))
+    ∙ any-listed test (listed x.list)

@@ -2,7 +2,7 @@
 use Rattle.lines.proofs.Wordings.{refused_label, label-length, position-length, wrote-refused}
 use mathlib.Core.List.{◌++◌}
 use Rattle.model.specs.Text.{decimal}
-use Rattle.writing.proofs.Texts.{wrote_at, wrote-room}
+use Rattle.writing.proofs.Texts.{wrote-room}
 use native.Mathlib.Omega.{arith}
 use Rattle.lines.proofs.refused.Goals as goal
 
@@ -10,21 +10,9 @@ pub labelled-at-requires : goal.labelled-at-requires
 labelled-at-requires c =
     omega (arith, c.requires, label-length c.args.number c.ranges.number.fits)
 
-pub slice_bounds-ended-count : goal.slice_bounds-ended-count
-slice_bounds-ended-count c =
-    wrote_at c.args.buf.now (refused_label ++ decimal c.args.number) c.labelled-at.ensures (omega (arith, c.requires, label-length c.args.number c.ranges.number.fits))
-
-pub slice_bounds-ended-start : goal.slice_bounds-ended-start
-slice_bounds-ended-start c =
-    wrote_at c.args.buf.now (refused_label ++ decimal c.args.number) c.labelled-at.ensures (omega (arith, c.requires, label-length c.args.number c.ranges.number.fits))
-
 pub ended-requires : goal.ended-requires
 ended-requires c =
     wrote-room c.args.buf.now (refused_label ++ decimal c.args.number) c.labelled-at.ensures _ (omega (arith, c.requires, label-length c.args.number c.ranges.number.fits, position-length c.args.position c.ranges.position.fits))
-
-pub overflow_add-result : goal.overflow_add-result
-overflow_add-result c =
-    omega (arith, c.labelled-at.ensures.0, c.ended.ensures.0, label-length c.args.number c.ranges.number.fits, position-length c.args.position c.ranges.position.fits)
 
 pub returns : goal.returns
 returns c =

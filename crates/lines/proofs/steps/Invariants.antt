@@ -1,11 +1,7 @@
--- The loop's invariant and measure.
+-- Each part is a step's line.
 -- Assumes nothing.
-use Prim.Native.Nat.{◌-◌}
-use Rattle.lines.proofs.StepLines.{Listed}
+use Rattle.lines.specs.FirstSteps.{line_at}
 use Rattle.lines.proofs.steps.Given as goal
 
-abbrev pub invariant-loop-i : goal.invariant-loop-i
-invariant-loop-i l = Listed l.names l.count l.initial.buf l.buf l.at l.i
-
-abbrev pub decreases-loop-i : goal.decreases-loop-i
-decreases-loop-i l = l.count - l.i
+abbrev pub ghost-each : goal.ghost-each
+ghost-each a = line_at a.part.0.now

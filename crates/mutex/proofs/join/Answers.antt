@@ -4,26 +4,14 @@ use native.Mathlib.Omega.{arith}
 use Rattle.mutex.proofs.Steps.{deeper-fits, deepens, enters}
 use Rattle.mutex.proofs.join.Goals as goal
 
-pub overflow_add-queues : goal.overflow_add-queues
-overflow_add-queues c =
-    let x = c.args in
-    let n = c.wide-n in
-    omega (
-      arith,
-      deeper-fits x.queues.now x.m x.a c.requires.0 c.requires.1 n.result n.ensures.0 c.place-i.result
-          c.place-i.ensures c.if-i-n.true c.requires.4,
-    )
+pub overflow_add-bytes-in-Some : goal.overflow_add-bytes-in-Some
+overflow_add-bytes-in-Some c =
+    omega (arith, deeper-fits c.args.queues.now.bytes c.args.m c.args.a c.args.queues.now.room c.requires.0 c.from-n.result c.from-n.ensures c.in-Some.i c.in-Some.ensures c.requires.3)
 
-pub returns-then-i-n : goal.returns-then-i-n
-returns-then-i-n c =
-    let x = c.args in
-    let n = c.wide-n in
-    deepens x.queues.now x.m x.a c.requires.0 c.requires.1 n.result n.ensures.0 c.place-i.result
-    c.place-i.ensures c.if-i-n.true
+pub returns-in-Some : goal.returns-in-Some
+returns-in-Some c =
+    (deepens c.args.queues.now.bytes c.args.m c.args.a c.args.queues.now.room c.requires.0 c.from-n.result c.from-n.ensures c.in-Some.i c.in-Some.ensures).0
 
-pub returns : goal.returns
-returns c =
-    let x = c.args in
-    let n = c.wide-n in
-    enters x.queues.now x.m x.a c.requires.0 c.requires.1 n.result n.ensures.0 c.place-i.result c.place-i.ensures
-    c.if-i-n.false c.requires.2 c.requires.3
+pub returns-in-None : goal.returns-in-None
+returns-in-None c =
+    (enters c.args.queues.now.bytes c.args.m c.args.a c.args.queues.now.room c.requires.0 c.from-n.result c.from-n.ensures c.in-None.ensures c.requires.1 c.requires.2).0

@@ -3,29 +3,15 @@
 use Rattle.mutex.proofs.Steps.{stays, lessens, leaves}
 use Rattle.mutex.proofs.leave.Goals as goal
 
-pub returns-then-n-i : goal.returns-then-n-i
-returns-then-n-i c =
-    let x = c.args in
-    let n = c.wide-n in
-    stays x.queues.now x.m x.a c.requires.0 c.requires.1 n.result n.ensures.0 c.place-i.result c.place-i.ensures
-    c.if-n-i.true
+pub returns-in_default : goal.returns-in_default
+returns-in_default c =
+    (stays c.args.queues.now.bytes c.args.m c.args.a c.args.queues.now.room c.requires.0 c.from-n.result c.from-n.ensures c.in_default.ensures).0
 
-pub returns-then-b-ge8 : goal.returns-then-b-ge8
-returns-then-b-ge8 c =
-    let x = c.args in
-    let n = c.wide-n in
-    let i = c.place-i in
-    lessens x.queues.now x.m x.a c.requires.0 c.requires.1 n.result n.ensures.0 i.result i.ensures
-    c.if-n-i.false
-    c.if-b-ge8.true
+pub returns-then-bytes-at-ge8 : goal.returns-then-bytes-at-ge8
+returns-then-bytes-at-ge8 c =
+    (lessens c.args.queues.now.bytes c.args.m c.args.a c.args.queues.now.room c.requires.0 c.from-n.result c.from-n.ensures c.in-Some.i c.in-Some.ensures c.if-bytes-at-ge8.true).0
 
 pub returns : goal.returns
 returns c =
-    let x = c.args in
-    let n = c.wide-n in
-    let i = c.place-i in
-    leaves x.queues.now x.m x.a c.requires.0 c.requires.1 n.result n.ensures.0 i.result i.ensures
-    c.if-n-i.false
-    c.if-b-ge8.false
-    c.move_up.new.queues
-    c.move_up.ensures
+    (leaves c.args.queues.now.bytes c.args.m c.args.a c.args.queues.now.room c.requires.0 c.from-n.result c.from-n.ensures c.in-Some.i c.in-Some.ensures c.if-bytes-at-ge8.false
+    c.copy_within.new.self c.copy_within.ensures.after).0

@@ -1,17 +1,17 @@
 -- `page::actor_line` meets its contract: four sections, each in the rest after the one before it, and a line feed. Assumes nothing.
+use mathlib.Core.Path.{◌≡◌, sym, subst}
 use mathlib.Core.List.{List, [], ◌∷◌, ◌++◌}
 use Prim.Native.Nat.{ℕ, ◌+◌, ◌<◌, ◌≤◌}
 use native.Mathlib.Omega.{arith}
 use lib.ListN.{length, length-append}
 use Rattle.model.specs.Text.{decimal, space, left, right, line}
 use Rattle.model.specs.Page.{status_word, cells_text, actor_text}
-use Rattle.model.proofs.PageShape.{word-long}
 use Rattle.state.specs.State.{record_of}
 use Rattle.state.specs.declared.Actor.{Actor}
 use Rattle.writing.specs.Written.{Wrote}
 use Rattle.writing.proofs.Written.{rest, joined}
 use Rattle.writing.proofs.Texts.{wrote-store, wrote-below}
-use Rattle.writing.proofs.Sections.{Begun, first-section, left_at, left-room, last_sum, last-wrote, section-room, section-sum, next-section}
+use Rattle.writing.proofs.Sections.{Begun, first-section, left_at, left-room, last-wrote, section-room, next-section}
 use Rattle.page.specs.Parts.{status_as}
 use Rattle.page.specs.declared.Status.{Status}
 use Rattle.page.proofs.actor_line.Goals as goal
@@ -58,63 +58,37 @@ module _ {a : ℕ} {r : Actor} {status : Status} {e : List ℕ} (R : Room a r st
   asked2 : {at : ℕ} {b : List ℕ} → Wrote e (sec1 a) b at → length (sec2 r) ≤ length (rest at b)
   asked2 w1 = section-room (sec2 r) (sec3 status ++ sec4 r) (begun1 w1)
 
-  asked3 : {at m : ℕ} {b p : List ℕ} → Wrote e (sec1 a) b at → Wrote (rest at b) (sec2 r) p m → 9 ≤ length (rest (at + m) (joined at b p))
-  asked3 w1 w2 = omega (arith, section-room (sec3 status) (sec4 r) (begun2 w1 w2), word-long (status_as status))
+  asked3 : {at m : ℕ} {b p word : List ℕ} → word ≡ sec3 status → Wrote e (sec1 a) b at → Wrote (rest at b) (sec2 r) p m
+      → length word ≤ length (rest (at + m) (joined at b p))
+  asked3 {at} {m} {b} {p} same w1 w2 =
+      subst (λ (l : List ℕ). length l ≤ length (rest (at + m) (joined at b p))) (sym same) (section-room (sec3 status) (sec4 r) (begun2 w1 w2))
 
-pub right-number-requires : goal.right-number-requires
-right-number-requires c = asked1 (room c.args.a c.args.r c.args.status c.args.buf.now c.requires.2)
-
-pub slice_bounds-column-count : goal.slice_bounds-column-count
-slice_bounds-column-count c = left_at (begun1 (room c.args.a c.args.r c.args.status c.args.buf.now c.requires.2) c.right-number.ensures)
-
-pub slice_bounds-column-start : goal.slice_bounds-column-start
-slice_bounds-column-start c = left_at (begun1 (room c.args.a c.args.r c.args.status c.args.buf.now c.requires.2) c.right-number.ensures)
+-- the status's word is written
+told : (status : Status) {word : List ℕ} (e : List ℕ) {b : List ℕ} {m : ℕ} → word ≡ sec3 status → Wrote e word b m → Wrote e (sec3 status) b m
+told status e {b} {m} same w = subst (λ (l : List ℕ). Wrote e l b m) same w
 
 pub column-requires : goal.column-requires
 column-requires c = asked2 (room c.args.a c.args.r c.args.status c.args.buf.now c.requires.2) c.right-number.ensures
 
-pub overflow_add-word : goal.overflow_add-word
-overflow_add-word c =
-    omega (arith, section-sum (sec2 c.args.r) (sec3 c.args.status ++ sec4 c.args.r) (begun1 (room c.args.a c.args.r c.args.status c.args.buf.now c.requires.2) c.right-number.ensures) c.column.ensures.0)
+pub slice_bounds-put-count : goal.slice_bounds-put-count
+slice_bounds-put-count c = left_at (begun2 (room c.args.a c.args.r c.args.status c.args.buf.now c.requires.2) c.right-number.ensures c.column.ensures)
 
-pub slice_bounds-status_part-count : goal.slice_bounds-status_part-count
-slice_bounds-status_part-count c = left_at (begun2 (room c.args.a c.args.r c.args.status c.args.buf.now c.requires.2) c.right-number.ensures c.column.ensures)
+pub slice_bounds-put-start : goal.slice_bounds-put-start
+slice_bounds-put-start c = left_at (begun2 (room c.args.a c.args.r c.args.status c.args.buf.now c.requires.2) c.right-number.ensures c.column.ensures)
 
-pub slice_bounds-status_part-start : goal.slice_bounds-status_part-start
-slice_bounds-status_part-start c = left_at (begun2 (room c.args.a c.args.r c.args.status c.args.buf.now c.requires.2) c.right-number.ensures c.column.ensures)
-
-pub status_part-requires : goal.status_part-requires
-status_part-requires c = asked3 (room c.args.a c.args.r c.args.status c.args.buf.now c.requires.2) c.right-number.ensures c.column.ensures
-
-pub overflow_add-first : goal.overflow_add-first
-overflow_add-first c =
-    omega (arith, section-sum (sec3 c.args.status) (sec4 c.args.r) (begun2 (room c.args.a c.args.r c.args.status c.args.buf.now c.requires.2) c.right-number.ensures c.column.ensures) c.status_part.ensures.0)
-
-pub slice_bounds-cells_part-count : goal.slice_bounds-cells_part-count
-slice_bounds-cells_part-count c = left_at (begun3 (room c.args.a c.args.r c.args.status c.args.buf.now c.requires.2) c.right-number.ensures c.column.ensures c.status_part.ensures)
-
-pub slice_bounds-cells_part-start : goal.slice_bounds-cells_part-start
-slice_bounds-cells_part-start c = left_at (begun3 (room c.args.a c.args.r c.args.status c.args.buf.now c.requires.2) c.right-number.ensures c.column.ensures c.status_part.ensures)
+pub put-requires : goal.put-requires
+put-requires c = asked3 (room c.args.a c.args.r c.args.status c.args.buf.now c.requires.2) c.word.ensures c.right-number.ensures c.column.ensures
 
 pub cells_part-requires : goal.cells_part-requires
-cells_part-requires c = left-room (begun3 (room c.args.a c.args.r c.args.status c.args.buf.now c.requires.2) c.right-number.ensures c.column.ensures c.status_part.ensures)
-
-pub overflow_add-end : goal.overflow_add-end
-overflow_add-end c =
-    omega (arith, last_sum (begun3 (room c.args.a c.args.r c.args.status c.args.buf.now c.requires.2) c.right-number.ensures c.column.ensures c.status_part.ensures) c.cells_part.ensures.0)
+cells_part-requires c = left-room (begun3 (room c.args.a c.args.r c.args.status c.args.buf.now c.requires.2) c.right-number.ensures c.column.ensures (told c.args.status _ c.word.ensures c.put.ensures))
 
 pub bounds-buf-end : goal.bounds-buf-end
 bounds-buf-end c =
     wrote-below c.args.buf.now (whole c.args.a c.args.r c.args.status)
-    (last-wrote (begun3 (room c.args.a c.args.r c.args.status c.args.buf.now c.requires.2) c.right-number.ensures c.column.ensures c.status_part.ensures) c.cells_part.ensures)
+    (last-wrote (begun3 (room c.args.a c.args.r c.args.status c.args.buf.now c.requires.2) c.right-number.ensures c.column.ensures (told c.args.status _ c.word.ensures c.put.ensures)) c.cells_part.ensures)
     (room c.args.a c.args.r c.args.status c.args.buf.now c.requires.2).fits
-
-pub overflow_add-result : goal.overflow_add-result
-overflow_add-result c =
-    let w = last-wrote (begun3 (room c.args.a c.args.r c.args.status c.args.buf.now c.requires.2) c.right-number.ensures c.column.ensures c.status_part.ensures) c.cells_part.ensures in
-    omega (arith, w.0, (room c.args.a c.args.r c.args.status c.args.buf.now c.requires.2).fits)
 
 pub returns : goal.returns
 returns c =
     wrote-store c.args.buf.now (whole c.args.a c.args.r c.args.status) _ _ 10 (room c.args.a c.args.r c.args.status c.args.buf.now c.requires.2).fits
-    (last-wrote (begun3 (room c.args.a c.args.r c.args.status c.args.buf.now c.requires.2) c.right-number.ensures c.column.ensures c.status_part.ensures) c.cells_part.ensures)
+    (last-wrote (begun3 (room c.args.a c.args.r c.args.status c.args.buf.now c.requires.2) c.right-number.ensures c.column.ensures (told c.args.status _ c.word.ensures c.put.ensures)) c.cells_part.ensures)

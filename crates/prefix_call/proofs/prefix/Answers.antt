@@ -1,11 +1,16 @@
--- `prefix_call::prefix` meets its contract: the verdict of `same` on the shorter and as much of the longer. Assumes nothing.
-use mathlib.Core.Path.{◌∙◌, sym}
-use native.Mathlib.Omega.{arith}
-use Rattle.model.proofs.RecordingLaws.{first-compared, second-compared}
+-- `prefix_call::prefix` meets its contract: the verdict of `same` on as much of both as both have. Assumes nothing.
+use Rattle.std.proofs.Common.{◌≡◌, ◌∙◌, ap, ap₂, ℕ, List, min, take, length, arith, rules}
+use Rattle.std.proofs.lemmas.List.{take_min}
+use Rattle.model.specs.Calls.{comparison_of}
+use Rattle.model.specs.Recordings.{prefix_comparison_of}
 use Rattle.prefix_call.proofs.prefix.Goals as goal
 
-pub returns-then-m-n : goal.returns-then-m-n
-returns-then-m-n c = c.same.ensures ∙ sym (first-compared _ _ _ (omega (arith, c.if-m-n.true)))
-
 pub returns : goal.returns
-returns c = c.same-2.ensures ∙ sym (second-compared _ _ _ c.if-m-n.false)
+unfolding prefix_comparison_of
+returns c =
+    let f = c.args.first.now in
+    let s = c.args.second.now in
+    let least : c.min-both.result ≡ min (length f) (length s) = search rules in
+    let other : c.min-both.result ≡ min (length s) (length f) = omega (arith, least) in
+    c.same.ensures
+    ∙ ap₂ (comparison_of c.args.table.now) (ap (λ (n : ℕ). take n f) other ∙ take_min (length s) f) (ap (λ (n : ℕ). take n s) least ∙ take_min (length f) s)

@@ -1,12 +1,7 @@
--- The loop's invariant and measure.
+-- Each part is an entry.
 -- Assumes nothing.
-use Prim.Native.Nat.{◌-◌}
-use Rattle.writing.proofs.Loops.{Turn}
-use Rattle.queue_sections.proofs.Lists.{entry_at}
+use Rattle.queue_sections.specs.Parts.{entry_at}
 use Rattle.queue_sections.proofs.entries.Given as goal
 
-abbrev pub invariant-loop-i : goal.invariant-loop-i
-invariant-loop-i l = Turn (entry_at l.queues l.from) l.count l.initial.buf l.i l.buf l.at
-
-abbrev pub decreases-loop-i : goal.decreases-loop-i
-decreases-loop-i l = l.count - l.i
+abbrev pub ghost-each : goal.ghost-each
+ghost-each a = entry_at a.part.0.now.bytes a.part.1.now

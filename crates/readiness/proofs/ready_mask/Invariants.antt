@@ -1,16 +1,11 @@
--- The loop's invariant and measure.
+-- The loop's invariant: m has the bits of the actors from i on.
 -- Assumes nothing.
-use mathlib.Core.Path.{◌≡◌}
-use mathlib.Core.List.{List}
-use Prim.Native.Nat.{ℕ, ◌-◌, ◌≤◌}
+use Rattle.std.proofs.Common.{◌≡◌, ◌-◌}
 use Rattle.model.specs.Step.{ready}
 use Rattle.model.specs.Ready.{mask_of}
-use Rattle.readiness.specs.Parts.{site_with}
+use Rattle.state.specs.State.{site_of}
 use Rattle.readiness.proofs.ready_mask.Given as goal
 
 abbrev pub invariant-loop-i : goal.invariant-loop-i
 invariant-loop-i l =
-    (l.i ≤ l.n) × ((log ends journal : List ℕ) → l.m ≡ mask_of (ready l.table (site_with l.actors l.comms l.queues log ends journal)) (l.n - l.i) l.i)
-
-abbrev pub decreases-loop-i : goal.decreases-loop-i
-decreases-loop-i l = l.i
+    l.m ≡ mask_of (ready l.table (site_of l.actors l.site)) (l.n - l.i) l.i

@@ -7,34 +7,35 @@ use lib.ListN.{length, length-append}
 use Rattle.table.specs.Format.{actors_of, mailboxes_of, mutexes_of, count_of}
 use Rattle.model.specs.Report.{journal_bytes, report}
 use Rattle.state.specs.declared.Actor.{Actor}
-use Rattle.state.specs.State.{journal_of, site_of, CommsRoom, LogRoom, QueueRoom, Positions}
+use Rattle.state.specs.declared.arrays.Site.{Site as Arrays}
+use Rattle.state.specs.State.{journal_of, site_of, Positions}
 use Rattle.writing.specs.Written.{Wrote}
 use Rattle.actor_sections.specs.Parts.{actors_bytes, actions_bytes}
 use Rattle.queue_sections.specs.Parts.{boxes_bytes, mutexes_bytes}
 use Rattle.writing.proofs.Written.{rest, joined}
-use Rattle.writing.proofs.Sections.{Begun, first-section, left_at, left-room, last_sum, last-wrote, section-room, next-section}
+use Rattle.writing.proofs.Sections.{Begun, first-section, left-room, last-wrote, section-room, next-section}
 use Rattle.report.specs.Parts.{Reportable}
 use Rattle.report.proofs.write.Goals as goal
 
-module _ {table : List ℕ} {actors : List Actor} {comms log ends queues journal e : List ℕ} (R : Reportable table actors comms log ends queues journal e) where
+module _ {table : List ℕ} {actors : List Actor} {arrays : Arrays} {e : List ℕ} (R : Reportable table actors arrays e) where
   -- the sections
   abbrev sec1 : List ℕ
   sec1 = actors_bytes actors (actors_of table)
 
   abbrev sec2 : List ℕ
-  sec2 = actions_bytes table comms (actors_of table)
+  sec2 = actions_bytes table arrays.mail.comms (actors_of table)
 
   abbrev sec3 : List ℕ
-  sec3 = boxes_bytes log ends (mailboxes_of table)
+  sec3 = boxes_bytes arrays.mail.log arrays.mail.ends (mailboxes_of table)
 
   abbrev sec4 : List ℕ
-  sec4 = mutexes_bytes queues (mutexes_of table)
+  sec4 = mutexes_bytes arrays.queues.bytes (mutexes_of table)
 
   abbrev sec5 : List ℕ
-  sec5 = journal_bytes (journal_of journal)
+  sec5 = journal_bytes (journal_of arrays.journal)
 
   abbrev whole : List ℕ
-  whole = report table (site_of actors comms log ends queues journal)
+  whole = report table (site_of actors arrays)
 
   same : sec1 ++ (sec2 ++ (sec3 ++ (sec4 ++ sec5))) ≡ whole
   unfolding report
@@ -53,82 +54,46 @@ module _ {table : List ℕ} {actors : List Actor} {comms log ends queues journal
       (first-section sec1 (sec2 ++ (sec3 ++ (sec4 ++ sec5))) fits (subst (λ (k : ℕ). Wrote e (actors_bytes actors k) b at) h w))
 
   asked2 : {n at : ℕ} {b : List ℕ} → n ≡ actors_of table → Begun whole e b at (sec2 ++ (sec3 ++ (sec4 ++ sec5)))
-      → CommsRoom comms × (n ≤ 8) × ((a : ℕ) → a < n → count_of table a ≤ 32) × (length (actions_bytes table comms n) ≤ length (rest at b))
-  asked2 h g = rw h (R.mail-room.comms-room, R.accepted.actors-most, R.accepted.actions-most, section-room sec2 (sec3 ++ (sec4 ++ sec5)) g)
+      → (n ≤ 8) × ((a : ℕ) → a < n → count_of table a ≤ 32) × (length (actions_bytes table arrays.mail.comms n) ≤ length (rest at b))
+  asked2 h g = rw h (R.accepted.actors-most, R.accepted.actions-most, section-room sec2 (sec3 ++ (sec4 ++ sec5)) g)
 
   begun2 : {n at m : ℕ} {b p : List ℕ} → n ≡ actors_of table → Begun whole e b at (sec2 ++ (sec3 ++ (sec4 ++ sec5)))
-      → Wrote (rest at b) (actions_bytes table comms n) p m → Begun whole e (joined at b p) (at + m) (sec3 ++ (sec4 ++ sec5))
+      → Wrote (rest at b) (actions_bytes table arrays.mail.comms n) p m → Begun whole e (joined at b p) (at + m) (sec3 ++ (sec4 ++ sec5))
   begun2 {n} {at} {m} {b} {p} h g w =
-      next-section sec2 (sec3 ++ (sec4 ++ sec5)) g (subst (λ (k : ℕ). Wrote (rest at b) (actions_bytes table comms k) p m) h w)
+      next-section sec2 (sec3 ++ (sec4 ++ sec5)) g (subst (λ (k : ℕ). Wrote (rest at b) (actions_bytes table arrays.mail.comms k) p m) h w)
 
   asked3 : {n at : ℕ} {b : List ℕ} → n ≡ mailboxes_of table → Begun whole e b at (sec3 ++ (sec4 ++ sec5))
-      → LogRoom log ends × (n ≤ 8) × (length (boxes_bytes log ends n) ≤ length (rest at b))
-  asked3 h g = rw h (R.mail-room.log-room, R.accepted.mailboxes-most, section-room sec3 (sec4 ++ sec5) g)
+      → (n ≤ 8) × (length (boxes_bytes arrays.mail.log arrays.mail.ends n) ≤ length (rest at b))
+  asked3 h g = rw h (R.accepted.mailboxes-most, section-room sec3 (sec4 ++ sec5) g)
 
   begun3 : {n at m : ℕ} {b p : List ℕ} → n ≡ mailboxes_of table → Begun whole e b at (sec3 ++ (sec4 ++ sec5))
-      → Wrote (rest at b) (boxes_bytes log ends n) p m → Begun whole e (joined at b p) (at + m) (sec4 ++ sec5)
+      → Wrote (rest at b) (boxes_bytes arrays.mail.log arrays.mail.ends n) p m → Begun whole e (joined at b p) (at + m) (sec4 ++ sec5)
   begun3 {n} {at} {m} {b} {p} h g w =
-      next-section sec3 (sec4 ++ sec5) g (subst (λ (k : ℕ). Wrote (rest at b) (boxes_bytes log ends k) p m) h w)
+      next-section sec3 (sec4 ++ sec5) g (subst (λ (k : ℕ). Wrote (rest at b) (boxes_bytes arrays.mail.log arrays.mail.ends k) p m) h w)
 
   asked4 : {n at : ℕ} {b : List ℕ} → n ≡ mutexes_of table → Begun whole e b at (sec4 ++ sec5)
-      → QueueRoom queues × (n ≤ 8) × (length (mutexes_bytes queues n) ≤ length (rest at b))
-  asked4 h g = rw h (R.queue-room, R.accepted.mutexes-most, section-room sec4 sec5 g)
+      → (n ≤ 8) × (length (mutexes_bytes arrays.queues.bytes n) ≤ length (rest at b))
+  asked4 h g = rw h (R.accepted.mutexes-most, section-room sec4 sec5 g)
 
   begun4 : {n at m : ℕ} {b p : List ℕ} → n ≡ mutexes_of table → Begun whole e b at (sec4 ++ sec5)
-      → Wrote (rest at b) (mutexes_bytes queues n) p m → Begun whole e (joined at b p) (at + m) sec5
+      → Wrote (rest at b) (mutexes_bytes arrays.queues.bytes n) p m → Begun whole e (joined at b p) (at + m) sec5
   begun4 {n} {at} {m} {b} {p} h g w =
-      next-section sec4 sec5 g (subst (λ (k : ℕ). Wrote (rest at b) (mutexes_bytes queues k) p m) h w)
+      next-section sec4 sec5 g (subst (λ (k : ℕ). Wrote (rest at b) (mutexes_bytes arrays.queues.bytes k) p m) h w)
 
 pub actors_part-actions-requires : goal.actors_part-actions-requires
 actors_part-actions-requires c = asked1 c.requires c.actors-n.ensures
 
-pub slice_bounds-actions_part-count : goal.slice_bounds-actions_part-count
-slice_bounds-actions_part-count c = left_at (begun1 c.requires c.actors-n.ensures c.actors_part-actions.ensures)
-
-pub slice_bounds-actions_part-start : goal.slice_bounds-actions_part-start
-slice_bounds-actions_part-start c = left_at (begun1 c.requires c.actors-n.ensures c.actors_part-actions.ensures)
-
 pub actions_part-requires : goal.actions_part-requires
 actions_part-requires c = asked2 c.requires c.actors-n.ensures (begun1 c.requires c.actors-n.ensures c.actors_part-actions.ensures)
-
-pub overflow_add-boxes : goal.overflow_add-boxes
-overflow_add-boxes c = omega (arith, last_sum (begun2 c.requires c.actors-n.ensures (begun1 c.requires c.actors-n.ensures c.actors_part-actions.ensures) c.actions_part.ensures) refl)
-
-pub slice_bounds-boxes_part-count : goal.slice_bounds-boxes_part-count
-slice_bounds-boxes_part-count c = left_at (begun2 c.requires c.actors-n.ensures (begun1 c.requires c.actors-n.ensures c.actors_part-actions.ensures) c.actions_part.ensures)
-
-pub slice_bounds-boxes_part-start : goal.slice_bounds-boxes_part-start
-slice_bounds-boxes_part-start c = left_at (begun2 c.requires c.actors-n.ensures (begun1 c.requires c.actors-n.ensures c.actors_part-actions.ensures) c.actions_part.ensures)
 
 pub boxes_part-requires : goal.boxes_part-requires
 boxes_part-requires c = asked3 c.requires c.mailboxes-m.ensures (begun2 c.requires c.actors-n.ensures (begun1 c.requires c.actors-n.ensures c.actors_part-actions.ensures) c.actions_part.ensures)
 
-pub overflow_add-mutexes : goal.overflow_add-mutexes
-overflow_add-mutexes c = omega (arith, last_sum (begun3 c.requires c.mailboxes-m.ensures (begun2 c.requires c.actors-n.ensures (begun1 c.requires c.actors-n.ensures c.actors_part-actions.ensures) c.actions_part.ensures) c.boxes_part.ensures) refl)
-
-pub slice_bounds-mutexes_part-count : goal.slice_bounds-mutexes_part-count
-slice_bounds-mutexes_part-count c = left_at (begun3 c.requires c.mailboxes-m.ensures (begun2 c.requires c.actors-n.ensures (begun1 c.requires c.actors-n.ensures c.actors_part-actions.ensures) c.actions_part.ensures) c.boxes_part.ensures)
-
-pub slice_bounds-mutexes_part-start : goal.slice_bounds-mutexes_part-start
-slice_bounds-mutexes_part-start c = left_at (begun3 c.requires c.mailboxes-m.ensures (begun2 c.requires c.actors-n.ensures (begun1 c.requires c.actors-n.ensures c.actors_part-actions.ensures) c.actions_part.ensures) c.boxes_part.ensures)
-
 pub mutexes_part-requires : goal.mutexes_part-requires
 mutexes_part-requires c = asked4 c.requires c.mutexes-x.ensures (begun3 c.requires c.mailboxes-m.ensures (begun2 c.requires c.actors-n.ensures (begun1 c.requires c.actors-n.ensures c.actors_part-actions.ensures) c.actions_part.ensures) c.boxes_part.ensures)
 
-pub overflow_add-entries : goal.overflow_add-entries
-overflow_add-entries c = omega (arith, last_sum (begun4 c.requires c.mutexes-x.ensures (begun3 c.requires c.mailboxes-m.ensures (begun2 c.requires c.actors-n.ensures (begun1 c.requires c.actors-n.ensures c.actors_part-actions.ensures) c.actions_part.ensures) c.boxes_part.ensures) c.mutexes_part.ensures) refl)
-
-pub slice_bounds-part-count : goal.slice_bounds-part-count
-slice_bounds-part-count c = left_at (begun4 c.requires c.mutexes-x.ensures (begun3 c.requires c.mailboxes-m.ensures (begun2 c.requires c.actors-n.ensures (begun1 c.requires c.actors-n.ensures c.actors_part-actions.ensures) c.actions_part.ensures) c.boxes_part.ensures) c.mutexes_part.ensures)
-
-pub slice_bounds-part-start : goal.slice_bounds-part-start
-slice_bounds-part-start c = left_at (begun4 c.requires c.mutexes-x.ensures (begun3 c.requires c.mailboxes-m.ensures (begun2 c.requires c.actors-n.ensures (begun1 c.requires c.actors-n.ensures c.actors_part-actions.ensures) c.actions_part.ensures) c.boxes_part.ensures) c.mutexes_part.ensures)
-
 pub part-requires : goal.part-requires
-part-requires c = (c.requires.journal-room, left-room (begun4 c.requires c.mutexes-x.ensures (begun3 c.requires c.mailboxes-m.ensures (begun2 c.requires c.actors-n.ensures (begun1 c.requires c.actors-n.ensures c.actors_part-actions.ensures) c.actions_part.ensures) c.boxes_part.ensures) c.mutexes_part.ensures))
-
-pub overflow_add-result : goal.overflow_add-result
-overflow_add-result c = omega (arith, last_sum (begun4 c.requires c.mutexes-x.ensures (begun3 c.requires c.mailboxes-m.ensures (begun2 c.requires c.actors-n.ensures (begun1 c.requires c.actors-n.ensures c.actors_part-actions.ensures) c.actions_part.ensures) c.boxes_part.ensures) c.mutexes_part.ensures) c.part.ensures.0)
+part-requires c = (left-room (begun4 c.requires c.mutexes-x.ensures (begun3 c.requires c.mailboxes-m.ensures (begun2 c.requires c.actors-n.ensures (begun1 c.requires c.actors-n.ensures c.actors_part-actions.ensures) c.actions_part.ensures) c.boxes_part.ensures) c.mutexes_part.ensures))
 
 pub returns : goal.returns
 returns c = last-wrote (begun4 c.requires c.mutexes-x.ensures (begun3 c.requires c.mailboxes-m.ensures (begun2 c.requires c.actors-n.ensures (begun1 c.requires c.actors-n.ensures c.actors_part-actions.ensures) c.actions_part.ensures) c.boxes_part.ensures) c.mutexes_part.ensures) c.part.ensures

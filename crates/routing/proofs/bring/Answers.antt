@@ -1,10 +1,23 @@
--- `routing::bring` meets its contract. The loop's invariant is `Bringing`: the steps passed have moved back by one, and the step y is the one
--- carried or stands behind it. Assumes nothing.
-use Rattle.routing.proofs.TakenOut.{moves, ends}
+-- `routing::bring` meets its contract: the step's place is found, and the steps before it are moved.
+-- Assumes nothing.
+use mathlib.Core.Path.{◌≡◌, refl}
+use borrow.Author.Tests.{tests}
+use Rattle.std.proofs.Common.{rules, nat_eq, Some}
+use Rattle.std.proofs.lemmas.Iterator.{YieldsList-from_slice}
+use Rattle.std.proofs.lemmas.Iterator.Search.{position_from_yields_List}
+use Rattle.routing.proofs.TakenOut.{place_in, found, brought}
 use Rattle.routing.proofs.bring.Goals as goal
 
-pub loop-carry-preserved : goal.loop-carry-preserved
-loop-carry-preserved c = moves c.loop-carry.invariant c.loop-carry-test.true
+pub unwrap-way-requires : goal.unwrap-way-requires
+unwrap-way-requires c =
+    let x = c.args in
+    let e = found x.y x.left.now c.position.result c.requires
+    (position_from_yields_List (λ b. nat_eq b x.y) _ _ c.position.result c.position.ensures.ran (YieldsList-from_slice x.left.now cc) (λ b t q k. search (rules, tests))) in
+    rw e refl
 
 pub returns : goal.returns
-returns c = ends c.loop-carry.invariant c.loop-carry-test.false
+returns c =
+    let x = c.args in
+    let e : c.position.result ≡ Some (place_in x.y x.left.now) = found x.y x.left.now c.position.result c.requires
+    (position_from_yields_List (λ b. nat_eq b x.y) _ _ c.position.result c.position.ensures.ran (YieldsList-from_slice x.left.now cc) (λ b t q k. search (rules, tests))) in
+    brought x.y x.left.now c.copy_within.new.self c.unwrap-way.result c.requires (cc) c.copy_within.ensures.after

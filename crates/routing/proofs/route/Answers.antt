@@ -4,13 +4,10 @@ use Rattle.routing.proofs.Turns.{begins, bringable, way-below, room, next}
 use Rattle.routing.proofs.route.Goals as goal
 
 pub loop-b-init : goal.loop-b-init
-loop-b-init c =
-    begins c.requires
+loop-b-init c = begins c.requires
 
 pub bring-way-requires : goal.bring-way-requires
-bring-way-requires c =
-    let t = c.loop-b in
-    bringable c.requires t.invariant c.loop-b-test.true
+bring-way-requires c = bringable c.requires c.loop-b.invariant c.loop-b-test.true
 
 pub write-n-requires : goal.write-n-requires
 write-n-requires c =
@@ -19,7 +16,4 @@ write-n-requires c =
     (way-below c.requires t.invariant more c.bring-way.ensures, room c.requires t.invariant more c.bring-way.ensures)
 
 pub loop-b-preserved : goal.loop-b-preserved
-loop-b-preserved c =
-    let t = c.loop-b in
-    next c.requires t.invariant c.loop-b-test.true c.bring-way.ensures
-    c.write-n.ensures
+loop-b-preserved c = next c.requires c.loop-b.invariant c.loop-b-test.true c.bring-way.ensures c.write-n.ensures

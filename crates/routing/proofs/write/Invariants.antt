@@ -1,12 +1,9 @@
--- The loop's invariant and measure.
+-- The loop's invariant: the positions before k are written.
 -- Assumes nothing.
-use Prim.Native.Nat.{◌-◌}
-use Rattle.writing.proofs.Loops.{Turn}
-use Rattle.routing.proofs.Positions.{position_at}
+use Prim.Native.Nat.{ℕ, ◌+◌, ◌-◌, ◌<◌}
+use mathlib.Core.Path.{◌≡◌}
+use lib.ListN.{get_or}
 use Rattle.routing.proofs.write.Given as goal
 
 abbrev pub invariant-loop-k : goal.invariant-loop-k
-invariant-loop-k l = Turn (position_at l.b l.way) l.way l.initial.positions l.k l.positions l.k
-
-abbrev pub decreases-loop-k : goal.decreases-loop-k
-decreases-loop-k l = l.way - l.k
+invariant-loop-k l = (i : ℕ) → i < l.k → get_or l.position-items i 0 ≡ l.b + l.way - 1 - i

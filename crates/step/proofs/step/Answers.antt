@@ -1,180 +1,117 @@
 -- `step::step` meets its contract: in each arm the action is known, its range gives what the callees ask, and what they ensure makes up the
 -- model's step of that action.
 -- Assumes nothing.
-use mathlib.Core.Path.{refl, ◌∙◌, ap, sym, subst}
+use mathlib.Core.Path.{◌≡◌, refl, ◌∙◌, ap, sym, subst}
 use native.Mathlib.Omega.{arith}
-use lib.ListN.{length, get_or, set}
+use lib.ListN.{get_or, set}
 use Rattle.table.specs.Decode.{action_of}
-use Rattle.look.specs.Parts.{seen_of}
-use Rattle.step.specs.Parts.{Picks, SmallPlace}
-use Rattle.step.proofs.Taken.{ranged, position-small, actor-small, listed_small, pickable, small-place, quiet, posted, meets-as, queued, noted, of-next}
-use Rattle.model.proofs.ReportBoundCells.{pick_up_seen-length}
+use Rattle.step.specs.Parts.{StepTaken, Picks, SmallPlace}
+use Rattle.step.proofs.Taken.{ranged, pickable, small-place, quiet, posted, queued, noted, of-next}
 use mathlib.Core.List.{List}
 use Prim.Native.Nat.{ℕ, ◌+◌}
 use mathlib.Core.Bool.{cond}
-use Rattle.table.specs.declared.Action.TheVariants.{Set, Add, Lesser, Send, Receive, TestAny, WaitAny, Lock, Unlock, MutexTest, MutexWait, Note}
+use Rattle.table.specs.declared.Action.{Action}
+use Rattle.state.specs.declared.Actor.{Actor}
 use Rattle.model.specs.Views.{joins, leaves}
-use Rattle.state.specs.State.{mail_of}
 use Rattle.mail.specs.Parts.{sends_at, receives_at}
 use Rattle.model.specs.Local.{Seen, pick_up_seen, place_seen, is_seen, cells_after}
 use Rattle.model.specs.Step.{taken, waiting}
-use Rattle.state.specs.declared.NextStep.TheVariants.{Taken}
+use Rattle.std.proofs.Common.{Result}
+use Rattle.state.specs.State.{next_of}
+use Rattle.state.specs.declared.arrays.Site.{Site as Arrays}
+use Rattle.state.specs.declared.Hold.{Hold}
 use Rattle.step.proofs.step.Goals as goal
+use Rattle.step.proofs.step.Goals.{in-Set, in-Add+in_ok-adding-in-Add, in-Lesser, in-Send, in-Receive, in-TestAny, in-WaitAny+in_ok-awaited-in-WaitAny, in-Lock, in-Unlock, in-MutexTest, in-MutexWait+in_ok-awaited-in-MutexWait, in-Note}
 
-pub communications-seen-requires : goal.communications-seen-requires
-communications-seen-requires c =
-    let S = c.requires in
-    let range = ranged c.requires _ (sym c.action-x.ensures ∙ c.in-TestAny.is) in
-    (S.mail-room.comms-room, actor-small S, listed_small S _ range.1)
+-- the site where the arms join is what the arm left
+joined : {table : List ℕ} {a : ℕ} {x : Action} {r : Actor} {s : Result Actor Hold} {before after left : Arrays} → after ≡ left → next_of table a r ≡ x
+    → StepTaken table a x r before left s → StepTaken table a (next_of table a r) r before after s
+joined same is t = rw same (of-next _ is t)
+
+-- the record that is handed back, by the one that the arm made of the actor's
+handed : (r next : Actor) {made after : Actor} {cells : List ℕ} → (next.position ≡ after.position + 1) × (next.cells ≡ after.cells) → after ≡ made
+    → (made.position ≡ r.position) × (made.cells ≡ cells) → (next.position ≡ r.position + 1) × (next.cells ≡ cells)
+handed r next {made} {after} n is m =
+    let position : after.position ≡ r.position = ap (λ (q : Actor). q.position) is ∙ m.0 in
+    (omega (arith, n.0), n.1 ∙ ap (λ (q : Actor). q.cells) is ∙ m.1)
+
+-- a look's place goes into the result cell of the record that has picked up what was found
+looked : (own : ℕ → Action) (res : ℕ) (r picked told : Actor) {saw found : Seen} → saw ≡ found
+    → (picked.position ≡ r.position) × (picked.cells ≡ pick_up_seen own saw r.cells)
+    → (told.position ≡ picked.position) × (told.cells ≡ set picked.cells res (place_seen saw))
+    → (told.position ≡ r.position) × (told.cells ≡ set (pick_up_seen own found r.cells) res (place_seen found))
+looked own res r picked told {saw} same p t = (
+  t.0 ∙ p.0,
+  t.1
+      ∙ ap (λ (cells : List ℕ). set cells res (place_seen saw)) p.1
+      ∙ ap (λ (f : Seen). set (pick_up_seen own f r.cells) res (place_seen f)) same,
+)
 
 pub picked-requires : goal.picked-requires
 picked-requires c =
-    (c.requires.eight, c.requires.accepted, c.requires.actor, subst (Picks c.args.table.now c.args.a) (sym c.communications-seen.ensures) (pickable c.requires _ _ _ (ranged c.requires _ (sym c.action-x.ensures ∙ c.in-TestAny.is)).1))
+    (c.requires.accepted, c.requires.actor, subst (Picks c.args.table.now c.args.a) (sym c.communications-seen.ensures) (pickable c.requires _ _ _ (ranged c.requires _ (sym c.in-TestAny.ensures)).1))
 
-pub told-requires : goal.told-requires
-told-requires c =
-    let S = c.requires in
-    let range = ranged c.requires _ (sym c.action-x.ensures ∙ c.in-TestAny.is) in (
-      ap length c.picked.ensures.1 ∙ pick_up_seen-length (action_of c.args.table.now c.args.a) (seen_of c.communications-seen.result) c.args.r.cells ∙ S.eight,
+pub told-after-requires : goal.told-after-requires
+told-after-requires c =
+    let range = ranged c.requires _ (sym c.in-TestAny.ensures) in (
       range.0,
-      omega (arith, c.picked.ensures.0, position-small S),
       subst SmallPlace (sym c.communications-seen.ensures) (small-place _ _ _ range.1.most),
     )
 
-pub communications-seen-requires-in-WaitAny : goal.communications-seen-requires-in-WaitAny
-communications-seen-requires-in-WaitAny c =
-    let S = c.requires in
-    let range = ranged c.requires _ (sym c.action-x.ensures ∙ c.in-WaitAny.is) in
-    (S.mail-room.comms-room, actor-small S, listed_small S _ range.1)
-
 pub picked-requires-in-WaitAny : goal.picked-requires-in-WaitAny
 picked-requires-in-WaitAny c =
-    (c.requires.eight, c.requires.accepted, c.requires.actor, subst (Picks c.args.table.now c.args.a) (sym c.communications-seen-in-WaitAny.ensures) (pickable c.requires _ _ _ (ranged c.requires _ (sym c.action-x.ensures ∙ c.in-WaitAny.is)).1))
+    (c.requires.accepted, c.requires.actor, subst (Picks c.args.table.now c.args.a) (sym c.communications-seen-in-WaitAny.ensures) (pickable c.requires _ _ _ (ranged c.requires _ (sym c.in-WaitAny.ensures)).1))
 
-pub told-requires-in-WaitAny : goal.told-requires-in-WaitAny
-told-requires-in-WaitAny c =
-    let S = c.requires in
-    let range = ranged c.requires _ (sym c.action-x.ensures ∙ c.in-WaitAny.is) in (
-      ap length c.picked-in-WaitAny.ensures.1 ∙ pick_up_seen-length (action_of c.args.table.now c.args.a) (seen_of c.communications-seen-in-WaitAny.result) c.args.r.cells ∙ S.eight,
+pub told-after-requires-in-WaitAny : goal.told-after-requires-in-WaitAny
+told-after-requires-in-WaitAny c =
+    let range = ranged c.requires _ (sym c.in-WaitAny.ensures) in (
       range.0,
-      omega (arith, c.picked-in-WaitAny.ensures.0, position-small S),
       subst SmallPlace (sym c.communications-seen-in-WaitAny.ensures) (small-place _ _ _ range.1.most),
     )
 
-pub mutexes-seen-requires : goal.mutexes-seen-requires
-mutexes-seen-requires c =
-    let S = c.requires in
-    let range = ranged c.requires _ (sym c.action-x.ensures ∙ c.in-MutexTest.is) in
-    (S.queue-room, λ j h. omega (arith, range.1.right j h, S.accepted.mutexes-most))
+pub told-after-requires-in-MutexTest : goal.told-after-requires-in-MutexTest
+told-after-requires-in-MutexTest c =
+    let range = ranged c.requires _ (sym c.in-MutexTest.ensures) in
+    (range.0, subst SmallPlace (sym c.mutexes.ensures) (small-place _ _ _ range.1.most))
 
-pub told-requires-in-MutexTest : goal.told-requires-in-MutexTest
-told-requires-in-MutexTest c =
-    let S = c.requires in
-    let range = ranged c.requires _ (sym c.action-x.ensures ∙ c.in-MutexTest.is) in
-    (S.eight, range.0, position-small S, subst SmallPlace (sym c.mutexes-seen.ensures) (small-place _ _ _ range.1.most))
+pub told-after-requires-in-MutexWait : goal.told-after-requires-in-MutexWait
+told-after-requires-in-MutexWait c =
+    let range = ranged c.requires _ (sym c.in-MutexWait.ensures) in
+    (range.0, subst SmallPlace (sym c.mutexes-seen.ensures) (small-place _ _ _ range.1.most))
 
-pub mutexes-seen-requires-in-MutexWait : goal.mutexes-seen-requires-in-MutexWait
-mutexes-seen-requires-in-MutexWait c =
-    let S = c.requires in
-    let range = ranged c.requires _ (sym c.action-x.ensures ∙ c.in-MutexWait.is) in
-    (S.queue-room, λ j h. omega (arith, range.1.right j h, S.accepted.mutexes-most))
-
-pub told-requires-in-MutexWait : goal.told-requires-in-MutexWait
-told-requires-in-MutexWait c =
-    let S = c.requires in
-    let range = ranged c.requires _ (sym c.action-x.ensures ∙ c.in-MutexWait.is) in
-    (S.eight, range.0, position-small S, subst SmallPlace (sym c.mutexes-seen-in-MutexWait.ensures) (small-place _ _ _ range.1.most))
-
-pub returns-in-Set : goal.returns-in-Set
+pub returns : goal.returns
 unfolding cells_after
-returns-in-Set c =
-    of-next (Set c.in-Set.cell c.in-Set.value) (sym c.action-x.ensures ∙ c.in-Set.is)
-    (quiet c.requires (Set c.in-Set.cell c.in-Set.value) (record { next = Taken; actor = c.next.result }) refl refl
-    (λ t. (c.next.ensures.0 ∙ ap (λ (n : ℕ). n + 1) c.put.ensures.0, c.next.ensures.1 ∙ c.put.ensures.1)))
-
-pub returns-in-Add : goal.returns-in-Add
-unfolding cells_after
-returns-in-Add c =
-    of-next (Add c.in-Add.cell c.in-Add.other) (sym c.action-x.ensures ∙ c.in-Add.is)
-    (quiet c.requires (Add c.in-Add.cell c.in-Add.other) c.added.result refl c.added.ensures.next-right c.added.ensures.after)
-
-pub returns-in-Lesser : goal.returns-in-Lesser
-unfolding cells_after
-returns-in-Lesser c =
-    of-next (Lesser c.in-Lesser.cell c.in-Lesser.other) (sym c.action-x.ensures ∙ c.in-Lesser.is)
-    (quiet c.requires (Lesser c.in-Lesser.cell c.in-Lesser.other) (record { next = Taken; actor = c.next-in-Lesser.result }) refl refl
-    (λ t. (c.next-in-Lesser.ensures.0 ∙ ap (λ (n : ℕ). n + 1) c.lesser.ensures.0, c.next-in-Lesser.ensures.1 ∙ c.lesser.ensures.1)))
-
-pub returns-in-Send : goal.returns-in-Send
-unfolding cells_after
-returns-in-Send c =
-    of-next (Send c.in-Send.mailbox c.in-Send.cell) (sym c.action-x.ensures ∙ c.in-Send.is)
-    (posted c.requires (Send c.in-Send.mailbox c.in-Send.cell) (record { next = Taken; actor = c.next-in-Send.result }) (sends_at c.in-Send.mailbox) (get_or c.args.r.cells c.in-Send.cell 0) refl refl refl
-    (c.send.ensures.mail ∙ meets-as c.requires (sends_at c.in-Send.mailbox) (get_or c.args.r.cells c.in-Send.cell 0) (mail_of c.args.comms.now c.args.log.now c.args.ends.now))
-    c.send.ensures.room c.send.ensures.grown (λ t. (c.next-in-Send.ensures.0, c.next-in-Send.ensures.1)))
-
-pub returns-in-Receive : goal.returns-in-Receive
-unfolding cells_after
-returns-in-Receive c =
-    of-next (Receive c.in-Receive.mailbox c.in-Receive.cell) (sym c.action-x.ensures ∙ c.in-Receive.is)
-    (posted c.requires (Receive c.in-Receive.mailbox c.in-Receive.cell) (record { next = Taken; actor = c.next-in-Receive.result }) (receives_at c.in-Receive.mailbox) 0 refl refl refl
-    (c.receive.ensures.mail ∙ meets-as c.requires (receives_at c.in-Receive.mailbox) 0 (mail_of c.args.comms.now c.args.log.now c.args.ends.now))
-    c.receive.ensures.room c.receive.ensures.grown (λ t. (c.next-in-Receive.ensures.0, c.next-in-Receive.ensures.1)))
-
-pub returns-in-TestAny : goal.returns-in-TestAny
-unfolding cells_after
-returns-in-TestAny c =
-    of-next (TestAny c.in-TestAny.result c.in-TestAny.list) (sym c.action-x.ensures ∙ c.in-TestAny.is)
-    (quiet c.requires (TestAny c.in-TestAny.result c.in-TestAny.list) (record { next = Taken; actor = c.told.result }) refl refl
-    (λ t. (
-      c.told.ensures.0 ∙ ap (λ (n : ℕ). n + 1) c.picked.ensures.0,
-      c.told.ensures.1
-          ∙ ap (λ (cs : List ℕ). set cs c.in-TestAny.result (place_seen (seen_of c.communications-seen.result))) c.picked.ensures.1
-          ∙ ap (λ (f : Seen). set (pick_up_seen (action_of c.args.table.now c.args.a) f c.args.r.cells) c.in-TestAny.result (place_seen f)) c.communications-seen.ensures,
-    )))
-
-pub returns-in-WaitAny : goal.returns-in-WaitAny
-unfolding cells_after
-returns-in-WaitAny c =
-    of-next (WaitAny c.in-WaitAny.result c.in-WaitAny.list) (sym c.action-x.ensures ∙ c.in-WaitAny.is)
-    (quiet c.requires (WaitAny c.in-WaitAny.result c.in-WaitAny.list) (record { next = c.awaited.result; actor = c.told-in-WaitAny.result }) refl (c.awaited.ensures ∙ ap (λ (f : Seen). cond (is_seen f) taken waiting) c.communications-seen-in-WaitAny.ensures)
-    (λ t. (
-      c.told-in-WaitAny.ensures.0 ∙ ap (λ (n : ℕ). n + 1) c.picked-in-WaitAny.ensures.0,
-      c.told-in-WaitAny.ensures.1
-          ∙ ap (λ (cs : List ℕ). set cs c.in-WaitAny.result (place_seen (seen_of c.communications-seen-in-WaitAny.result))) c.picked-in-WaitAny.ensures.1
-          ∙ ap (λ (f : Seen). set (pick_up_seen (action_of c.args.table.now c.args.a) f c.args.r.cells) c.in-WaitAny.result (place_seen f)) c.communications-seen-in-WaitAny.ensures,
-    )))
-
-pub returns-in-Lock : goal.returns-in-Lock
-unfolding cells_after
-returns-in-Lock c =
-    of-next (Lock c.in-Lock.mutex) (sym c.action-x.ensures ∙ c.in-Lock.is)
-    (queued c.requires (Lock c.in-Lock.mutex) (record { next = Taken; actor = c.next-in-Lock.result }) (joins c.in-Lock.mutex) refl refl (λ me v mail. refl) (λ me v entries. refl)
-    c.join.ensures.0 c.join.ensures.1 (λ t. (c.next-in-Lock.ensures.0, c.next-in-Lock.ensures.1)))
-
-pub returns-in-Unlock : goal.returns-in-Unlock
-unfolding cells_after
-returns-in-Unlock c =
-    of-next (Unlock c.in-Unlock.mutex) (sym c.action-x.ensures ∙ c.in-Unlock.is)
-    (queued c.requires (Unlock c.in-Unlock.mutex) (record { next = Taken; actor = c.next-in-Unlock.result }) (leaves c.in-Unlock.mutex) refl refl (λ me v mail. refl) (λ me v entries. refl)
-    c.leave.ensures.0 c.leave.ensures.1 (λ t. (c.next-in-Unlock.ensures.0, c.next-in-Unlock.ensures.1)))
-
-pub returns-in-MutexTest : goal.returns-in-MutexTest
-unfolding cells_after
-returns-in-MutexTest c =
-    of-next (MutexTest c.in-MutexTest.result c.in-MutexTest.list) (sym c.action-x.ensures ∙ c.in-MutexTest.is)
-    (quiet c.requires (MutexTest c.in-MutexTest.result c.in-MutexTest.list) (record { next = Taken; actor = c.told-in-MutexTest.result }) refl refl
-    (λ t. (c.told-in-MutexTest.ensures.0, c.told-in-MutexTest.ensures.1 ∙ ap (λ (f : Seen). set c.args.r.cells c.in-MutexTest.result (place_seen f)) c.mutexes-seen.ensures)))
-
-pub returns-in-MutexWait : goal.returns-in-MutexWait
-unfolding cells_after
-returns-in-MutexWait c =
-    of-next (MutexWait c.in-MutexWait.result c.in-MutexWait.list) (sym c.action-x.ensures ∙ c.in-MutexWait.is)
-    (quiet c.requires (MutexWait c.in-MutexWait.result c.in-MutexWait.list) (record { next = c.awaited-in-MutexWait.result; actor = c.told-in-MutexWait.result }) refl (c.awaited-in-MutexWait.ensures ∙ ap (λ (f : Seen). cond (is_seen f) taken waiting) c.mutexes-seen-in-MutexWait.ensures)
-    (λ t. (c.told-in-MutexWait.ensures.0, c.told-in-MutexWait.ensures.1 ∙ ap (λ (f : Seen). set c.args.r.cells c.in-MutexWait.result (place_seen f)) c.mutexes-seen-in-MutexWait.ensures)))
-
-pub returns-in-Note : goal.returns-in-Note
-returns-in-Note c =
-    of-next (Note c.in-Note.cell) (sym c.action-x.ensures ∙ c.in-Note.is)
-    (noted c.requires c.in-Note.cell (record { next = Taken; actor = c.next-in-Note.result }) refl c.add.ensures.0 c.add.ensures.1
-    (λ t. (c.next-in-Note.ensures.0, c.next-in-Note.ensures.1)))
+returns c =
+    elim c.match-action.branch [
+      | in-Set w ↦ joined w.site-is (sym w.in-Set.ensures)
+          (quiet c.requires _ c.next.result refl refl (handed c.args.r c.next.result c.next.ensures w.after-is w.put-after.ensures))
+      | in-Add+in_ok-adding-in-Add w ↦ joined w.site-is (sym w.in-Add.ensures)
+          (quiet c.requires _ c.next.result refl w.in_ok-adding-in-Add.ensures (handed c.args.r c.next.result c.next.ensures w.after-is w.add-after.ensures))
+      | in-Lesser w ↦ joined w.site-is (sym w.in-Lesser.ensures)
+          (quiet c.requires _ c.next.result refl refl (handed c.args.r c.next.result c.next.ensures w.after-is w.lesser-after.ensures))
+      | in-Send w ↦ joined w.site-is (sym w.in-Send.ensures)
+          (posted c.requires _ c.next.result (sends_at w.in-Send.mailbox) (get_or c.args.r.cells w.in-Send.cell 0) refl refl refl w.send.ensures (handed c.args.r c.next.result c.next.ensures w.after-is (refl, refl)))
+      | in-Receive w ↦ joined w.site-is (sym w.in-Receive.ensures)
+          (posted c.requires _ c.next.result (receives_at w.in-Receive.mailbox) 0 refl refl refl w.receive.ensures (handed c.args.r c.next.result c.next.ensures w.after-is (refl, refl)))
+      | in-TestAny w ↦ joined w.site-is (sym w.in-TestAny.ensures)
+          (quiet c.requires _ c.next.result refl refl (handed c.args.r c.next.result c.next.ensures w.after-is
+          (looked (action_of c.args.table.now c.args.a) w.in-TestAny.result c.args.r w.picked.result w.told-after.result w.communications-seen.ensures w.picked.ensures w.told-after.ensures)))
+      | in-WaitAny+in_ok-awaited-in-WaitAny w ↦ joined w.site-is (sym w.in-WaitAny.ensures)
+          (quiet c.requires _ c.next.result refl (w.in_ok-awaited-in-WaitAny.ensures ∙ ap (λ (f : Seen). cond (is_seen f) taken waiting) w.communications-seen-in-WaitAny.ensures)
+          (handed c.args.r c.next.result c.next.ensures w.after-is
+          (looked (action_of c.args.table.now c.args.a) w.in-WaitAny.result c.args.r w.picked-in-WaitAny.result w.told-after-in-WaitAny.result
+          w.communications-seen-in-WaitAny.ensures w.picked-in-WaitAny.ensures w.told-after-in-WaitAny.ensures)))
+      | in-Lock w ↦ joined w.site-is (sym w.in-Lock.ensures)
+          (queued c.requires _ c.next.result (joins w.in-Lock.mutex) refl refl (λ me v mail. refl) (λ me v entries. refl) w.join.ensures (handed c.args.r c.next.result c.next.ensures w.after-is (refl, refl)))
+      | in-Unlock w ↦ joined w.site-is (sym w.in-Unlock.ensures)
+          (queued c.requires _ c.next.result (leaves w.in-Unlock.mutex) refl refl (λ me v mail. refl) (λ me v entries. refl) w.leave.ensures (handed c.args.r c.next.result c.next.ensures w.after-is (refl, refl)))
+      | in-MutexTest w ↦ joined w.site-is (sym w.in-MutexTest.ensures)
+          (quiet c.requires _ c.next.result refl refl (handed c.args.r c.next.result c.next.ensures w.after-is
+          (w.told-after-in-MutexTest.ensures.0, w.told-after-in-MutexTest.ensures.1 ∙ ap (λ (f : Seen). set c.args.r.cells w.in-MutexTest.result (place_seen f)) w.mutexes.ensures)))
+      | in-MutexWait+in_ok-awaited-in-MutexWait w ↦ joined w.site-is (sym w.in-MutexWait.ensures)
+          (quiet c.requires _ c.next.result refl (w.in_ok-awaited-in-MutexWait.ensures ∙ ap (λ (f : Seen). cond (is_seen f) taken waiting) w.mutexes-seen.ensures)
+          (handed c.args.r c.next.result c.next.ensures w.after-is
+          (w.told-after-in-MutexWait.ensures.0, w.told-after-in-MutexWait.ensures.1 ∙ ap (λ (f : Seen). set c.args.r.cells w.in-MutexWait.result (place_seen f)) w.mutexes-seen.ensures)))
+      | in-Note w ↦ joined w.site-is (sym w.in-Note.ensures)
+          (noted c.requires w.in-Note.cell c.next.result w.add.ensures (handed c.args.r c.next.result c.next.ensures w.after-is (refl, refl)))
+    ]

@@ -1,22 +1,10 @@
 -- `text::ended` meets its contract: the label and the number, then a line feed. Assumes nothing.
-use Rattle.writing.proofs.Texts.{wrote-store, wrote-below}
+use Rattle.writing.proofs.Texts.{wrote-store}
 use Rattle.model.specs.Text.{decimal}
 use lib.ListN.{length-append}
 use mathlib.Core.List.{[], ◌∷◌, ◌++◌}
 use native.Mathlib.Omega.{arith}
 use Rattle.text.proofs.ended.Goals as goal
-
-pub labelled-at-requires : goal.labelled-at-requires
-labelled-at-requires c =
-    omega (arith, c.requires, length-append (c.args.label.now ++ decimal c.args.x) (10 ∷ []))
-
-pub bounds-buf-at : goal.bounds-buf-at
-bounds-buf-at c =
-    wrote-below c.args.buf.now (c.args.label.now ++ decimal c.args.x) c.labelled-at.ensures (omega (arith, c.requires, length-append (c.args.label.now ++ decimal c.args.x) (10 ∷ [])))
-
-pub overflow_add-result : goal.overflow_add-result
-overflow_add-result c =
-    omega (arith, c.requires, length-append (c.args.label.now ++ decimal c.args.x) (10 ∷ []), c.labelled-at.ensures.0)
 
 pub returns : goal.returns
 returns c =

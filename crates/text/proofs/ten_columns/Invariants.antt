@@ -1,10 +1,7 @@
--- The loop's invariant and measure.
+-- The loop's invariant: the number's last digits stand behind the first i columns, and spaces in those.
 -- Assumes nothing.
 use Rattle.text.proofs.Filling.{Filling}
 use Rattle.text.proofs.ten_columns.Given as goal
 
-abbrev pub invariant-loop-rest : goal.invariant-loop-rest
-invariant-loop-rest l = Filling l.initial.buf l.x l.buf l.rest l.i
-
-abbrev pub decreases-loop-rest : goal.decreases-loop-rest
-decreases-loop-rest l = l.rest
+abbrev pub invariant-loop-i : goal.invariant-loop-i
+invariant-loop-i l = Filling l.initial.buf l.x l.buf l.rest l.i

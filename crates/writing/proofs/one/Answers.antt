@@ -1,7 +1,0 @@
--- `writing::one` meets its contract. Assumes nothing.
-use mathlib.Core.List.{[], ◌∷◌}
-use Rattle.writing.proofs.Written.{wrote_stores}
-use Rattle.writing.proofs.one.Goals as goal
-
-pub returns : goal.returns
-returns c = wrote_stores (c.args.a ∷ []) c.args.buf.now c.requires
