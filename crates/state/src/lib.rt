@@ -18,7 +18,7 @@ pub struct Actor {
     pub ghost eight: { length cells ≡ 8 },
 }
 
-// The local steps: each takes the record and hands it back.
+// The local steps: each takes the record as its own, changes it and hands it back, the form that the project asks for here.
 impl Actor {
     ghost use Rattle.state.specs.State.{fresh_actor, step_as};
 
@@ -35,7 +35,7 @@ impl Actor {
     // Set, and the writing of a result or of a value that was picked up. Every cell is written, the others with what they hold: a store of
     // one cell, with the whole record read right after it, is slow, and an `if` in place of `then_some` is compiled to that.
     pub fn put(mut self, cell: usize, value: u32) -> Self
-        requires { (cell < 8) }
+        requires { cell < 8 }
         ensures { (result.position ≡ self.position) × (result.cells ≡ set self.cells cell value) }
     {
         for (i, held) in self.cells.iter_mut().enumerate() {
@@ -56,19 +56,21 @@ impl Actor {
     }
 
     // Add: the sum, which must not run over.
-    pub fn add(self, cell: usize, other: usize) -> Self
+    pub fn add(mut self, cell: usize, other: usize) -> Self
         requires { (cell < 8) × (other < 8) × (total (Add cell other) self.cells ≤ largest) }
         ensures { (result.position ≡ self.position) × (result.cells ≡ set self.cells cell (total (Add cell other) self.cells)) }
     {
-        self.put(cell, self.cells[cell] + self.cells[other])
+        self = self.put(cell, self.cells[cell] + self.cells[other]);
+        self
     }
 
     // Lesser: the smaller of the two.
-    pub fn lesser(self, cell: usize, other: usize) -> Self
+    pub fn lesser(mut self, cell: usize, other: usize) -> Self
         requires { (cell < 8) × (other < 8) }
         ensures { (result.position ≡ self.position) × (result.cells ≡ set self.cells cell (min (get_or self.cells cell 0) (get_or self.cells other 0))) }
     {
-        self.put(cell, self.cells[cell].min(self.cells[other]))
+        self = self.put(cell, self.cells[cell].min(self.cells[other]));
+        self
     }
 
     // The next action follows.
