@@ -6,8 +6,8 @@ use Rattle.policy.specs.Parts.{TurnRight}
 use Rattle.lead.specs.declared.Lead.{Lead}
 use Rattle.lead.specs.declared.Lead.TheVariants.{Lent, Made}
 
--- what is due at entry i, and who leads then: of a lent schedule its end, or the entry's actor, and the schedule still; of a made one its end where the
--- mask has nobody, or the policy's turn, and the policy after it
+-- what is due at entry i, and who leads then: of a lent schedule its end, or the entry's actor, and the schedule still; of a made one its end where
+-- the mask has nobody, or the policy's turn, and the policy after it
 abbrev pub DueRight : Lead → (i mask : ℕ) → Option ℕ → Lead → Type 0
 DueRight (Lent schedule) i mask None after = length schedule.now ≤ i
 DueRight (Lent schedule) i mask (Some actor) after = (i < length schedule.now) × (actor ≡ get_or schedule.now i 0) × (after ≡ Lent schedule)

@@ -20,7 +20,7 @@ pub enum Lead<'a> {
 }
 
 impl<'a> Lead<'a> {
-    // The actor whose turn it is after i turns, where those of a mask are ready; none at the schedule's end. A lent schedule does not look at the mask.
+    // The actor whose turn it is after i turns, where those of a mask are ready; none at the schedule's end. A lent schedule asks no mask.
     #[tactic(auto, using(std::proofs::lemmas::Nat::zero_from_ones))]
     pub fn turn(&mut self, i: usize, mask: u32) -> Option<usize>
         ensures { DueRight self.old i mask result self.new }

@@ -1,4 +1,4 @@
-// Whose turn it is: the ways in which a maker of schedules chooses the actor that is stepped next. `specs/Parts` says which rule of the model each is.
+// Whose turn it is: the ways in which a maker of schedules chooses the actor that is stepped next. `specs/Parts` says which rule each is.
 #![tactic(auto)]
 
 ghost use Rattle.std.specs.Prelude.{◌≡◌, ℕ, ◌*◌, ◌%◌, ◌^◌, ◌<◌, Bool, count_ones};

@@ -35,8 +35,8 @@ pub fn answer(table: &[u8], actors: [Actor; 8], site: &Site) -> Readiness
     }
 }
 
-// Which actors are ready: bit i of the mask is actor i's, from the last actor down. Those that `known` has are known to be ready, but for actor `a`, and
-// are not looked at.
+// Which actors are ready: bit i of the mask is actor i's, from the last actor down. Those that `known` has are known to be ready, but for
+// actor `a`, and are not looked at.
 pub fn ready_mask(
     table: &[u8],
     n: usize,

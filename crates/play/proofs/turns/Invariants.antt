@@ -1,5 +1,5 @@
--- The loop over a schedule's entries: its invariant, the arrays hold the state that the first i entries of the schedule played have left, and all of them
--- were taken; who leads is the lent schedule, or a policy that makes the rest from that state.
+-- The loop over a schedule's entries: its invariant, the arrays hold the state that the first i entries of the schedule played have left, and all of
+-- them were taken; who leads is the lent schedule, or a policy that makes the rest from that state.
 -- Assumes nothing.
 use Rattle.play.specs.Parts.{played_by}
 use Rattle.play.proofs.Playing.{Playing, Named}
