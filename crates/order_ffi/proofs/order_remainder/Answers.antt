@@ -14,12 +14,12 @@ overflow_sub-from-else-first-second c = omega (arith, length-of-first _ _ c.rema
 
 pub returns-then-first-second : goal.returns-then-first-second
 returns-then-first-second c =
-    c.remainder.ensures
+    c.into.ensures
     ∙ ap remainder_fields
     (end-of-second _ _ _ c.if-first-second.true (length-of-second _ _ c.remainder-length.ensures c.if-first-second.true))
 
 pub returns-else-first-second : goal.returns-else-first-second
 returns-else-first-second c =
-    c.remainder-else-first-second.ensures
+    c.into-else-first-second.ensures
     ∙ ap remainder_fields
     (end-of-first _ _ _ c.if-first-second.false (length-of-first _ _ c.remainder-length.ensures c.if-first-second.false))
