@@ -1,7 +1,8 @@
 # Which definition files the public contracts and demand 3 reach, of what read.awk has read. Prints the trust list; with why=FILE, a shortest chain of
 # `use` lines that leads to FILE. public has the public crates, demand the file of demand 3.
 # A contract reaches the files from which its names are imported and the types that it names; a file reaches all that it imports; a type that a call
-# reaches has its public methods, which are calls too. Where the text leaves a doubt, more is reached.
+# reaches has its public methods, which are calls too, as are the functions of the trait impls that name it. Where the text leaves a doubt, more is
+# reached.
 
 # The file that an import names, or the type, as `crate: Name`; "" where there is none.
 function target(path, place,    crate, rest, part, n, k, file) {
@@ -34,11 +35,29 @@ function is_public(file,    name, above) {
     return (above, name) in public_module && is_public(above)
 }
 
-# The public crates pass on functions of other crates; all public functions of those count as calls.
+# Whether a public import passes on a type of a public module of its own file, which that module declares. Its methods count as calls there.
+function passes_type(k,    part, file, t) {
+    if (!(k in pass_type)) return 0
+    split(pass_type[k], part, /::|;/)
+    if (!((pass_file[k], part[1]) in public_module) || !is_public(pass_file[k])) return 0
+    file = pass_file[k]
+    if (!sub(/\/src\/lib\.rt$/, "/src/", file)) sub(/\.rt$/, "/", file)
+    for (t = 1; t <= types; t++) if (type_file[t] == file part[1] ".rt" && type_name[t] == part[2]) return 1
+    return 0
+}
+
+# Whether a trait impl of a crate is of a type that the crate shows.
+function is_shown(i,    t) {
+    for (t = 1; t <= types; t++)
+        if (type_crate[t] == crate_of(trait_file[i]) && mentions(trait_head[i], type_name[t]) && is_public(type_file[t])) return 1
+    return 0
+}
+
+# The public crates pass on functions of other crates; all public functions of those count as calls, and those of trait impls of their types.
 function find_calls(    part, n, k, c, crate, name) {
     for (n = split(public, part, " "); n; n--) is_public_crate[part[n]] = with_calls[part[n]] = 1
     for (k = 1; k <= passes; k++) {
-        if (!(crate_of(pass_file[k]) in is_public_crate)) continue
+        if (!(crate_of(pass_file[k]) in is_public_crate) || passes_type(k)) continue
         if (!pass_read[k]) { fault("a public import is not followed: " pass_at[k]); continue }
         crate = pass_name[k]; sub(/::.*/, "", crate)
         with_calls[crate] = has_call[crate_of(pass_file[k])] = passed[pass_name[k]] = 1
@@ -47,10 +66,12 @@ function find_calls(    part, n, k, c, crate, name) {
         if (crate_of(pass_file[k]) in with_calls && !(crate_of(pass_file[k]) in is_public_crate)) fault("a public import is not followed: " pass_at[k])
     for (c = 1; c <= calls; c++) {
         crate = crate_of(call_file[c]); name = crate "::" call_name[c]
-        if (c in method_of) method[call[c]] = c
-        if (!(crate in with_calls) || !is_public(call_file[c])) continue
-        queue[++roots] = call[c]; root[call[c]] = c; has_call[crate] = has_call[name] = 1
-        if (crate in is_public_crate || name in passed) cites = cites contract_text[c]
+        if (c in method_of || c in impl_of) method[call[c]] = c
+        if (!(crate in with_calls)) continue
+        if (!(c in impl_of ? is_shown(impl_of[c]) : is_public(call_file[c]))) continue
+        queue[++roots] = call[c]; root[call[c]] = c
+        if (!(c in impl_of)) has_call[crate] = has_call[name] = 1
+        if (crate in is_public_crate || (!(c in impl_of) && name in passed)) cites = cites contract_text[c]
     }
     for (k = 1; k <= passes; k++)
         if (pass_name[k] in passed && !(pass_name[k] in has_call)) fault("no public function for the import: " pass_at[k])
@@ -64,6 +85,21 @@ function edge(node, to, place,    n) {
     n = ++edges[node]; edge_to[node, n] = to; edge_at[node, n] = place
 }
 
+# A method is reached from its type; a function of a trait impl from each type that the head of the `impl` names, the trait's arguments too.
+function find_methods(    c, i, k, file, head) {
+    for (c = 1; c <= calls; c++) {
+        if (c in method_of) edge(method_of[c], call[c], call[c])
+        if (!(c in impl_of)) continue
+        i = impl_of[c]; file = trait_file[i]; head = trait_head[i]
+        for (k = 1; k <= types; k++)
+            if ((type_crate[k] == crate_of(file) || head ~ /::/) && mentions(head, type_name[k]))
+                edge(type_crate[k] ": " type_name[k], call[c], trait_at[i])
+        for (k = 1; k <= binds[file]; k++)
+            if (bound_path[file, k] ~ /\.specs\.declared\./ && mentions(head, bound_name[file, k]))
+                edge(target(bound_path[file, k], bound_at[file, k]), call[c], trait_at[i])
+    }
+}
+
 # Judges a public contract, and finds what it reaches.
 function follow(c,    file, crate, k) {
     if (c in followed) return
@@ -71,6 +107,7 @@ function follow(c,    file, crate, k) {
     file = call_file[c]; crate = crate_of(file)
     if (c in asks) fault("a public call asks something of its caller: " call[c])
     if (!(c in promises)) fault("a public call promises nothing: " call[c])
+    if (c in impl_of && trait_name[impl_of[c]] in own_trait) fault("a trait of the repository is not followed: " call[c])
     for (k = 1; k <= call_faults[c]; k++) fault(fault_of_call[c, k])
     for (; file_faults[file]; file_faults[file]--) fault(fault_of_file[file, file_faults[file]])
     for (k = 1; k <= binds[file]; k++)
@@ -147,7 +184,7 @@ function next_type(crate,    node, best) {
 END {
     for (k = 1; k <= imports; k++) edge(import_from[k], target(import_path[k], import_at[k]), import_at[k])
     find_calls()
-    for (c = 1; c <= calls; c++) if (c in method_of) edge(method_of[c], call[c], call[c])
+    find_methods()
     if (!(demand in lines)) fault("there is no " demand)
     reach("calls", roots)
     queue[1] = demand; reached["demand", demand] = 1; nodes[demand] = 1

@@ -5,7 +5,7 @@ function fault(said) { print "trust: " said > "/dev/stderr"; faults++ }
 
 # A fault of a source file, or of one contract: said once a contract of the file, or that contract, is found to be public.
 function file_fault(said,    n) { n = ++file_faults[FILENAME]; fault_of_file[FILENAME, n] = said }
-function call_fault(said,    n) { n = ++call_faults[calls]; fault_of_call[calls, n] = said }
+function call_fault(c, said,    n) { n = ++call_faults[c]; fault_of_call[c, n] = said }
 
 # ---- names and places
 
@@ -69,6 +69,81 @@ function take_all(text, place,    crate, list, names, n, k) {
         if (names[k] ~ /^[A-Z]/) bind(names[k], "Rattle." (crate == "crate" ? crate_of(FILENAME) : crate) ".specs.declared." names[k], place)
 }
 
+# ---- an `impl`, and its functions
+
+# What stands behind the parameters in angle brackets with which a text begins.
+function behind_parameters(text,    k, c, open) {
+    if (substr(text, 1, 1) != "<") return text
+    for (k = 1; k <= length(text); k++) {
+        c = substr(text, k, 1)
+        if (c == "<") open++
+        if (c == ">" && substr(text, k - 1, 1) != "-" && !--open) break
+    }
+    text = substr(text, k + 1); sub(/^[ \t]*/, "", text)
+    return text
+}
+
+# The head of an `impl` has ended. Of one for a trait, `impl TRAIT for TYPE`, no function says `pub`; all of them can be called.
+function begin_impl(    text) {
+    sub(/[ \t]*\{.*/, "", heading)
+    text = heading; sub(/^[ \t]*(unsafe[ \t]+)?impl[ \t]*/, "", text); text = behind_parameters(text)
+    of_trait = match(text, /[ \t]for[ \t]/)
+    if (of_trait) {
+        trait_impls++
+        trait_file[trait_impls] = FILENAME; trait_head[trait_impls] = text; trait_at[trait_impls] = heading_at
+        trait_name[trait_impls] = substr(text, 1, RSTART - 1); sub(/[ \t]*<.*/, "", trait_name[trait_impls]); sub(/.*::/, "", trait_name[trait_impls])
+        text = substr(text, RSTART + RLENGTH); sub(/[ \t]where[ \t].*/, "", text); sub(/<.*/, "", text); sub(/^.*[^A-Za-z0-9_]/, "", text)
+    }
+    sub(/[^A-Za-z0-9_].*/, "", text)
+    impl = text; heading = ""
+}
+
+# A function of which a contract is read. indent is what its line begins with.
+function begin_call(name) {
+    indent = substr($0, 1, depth_of($0))
+    calls++; call_file[calls] = FILENAME; call_name[calls] = name
+    call[calls] = FILENAME ":" FNR ": " (impl == "" ? "" : impl "::") name
+    if (in_impl && of_trait) { impl_of[calls] = trait_impls; members[trait_impls]++ }
+    else if (impl != "") method_of[calls] = crate_of(FILENAME) ": " impl
+    inside = 1; contract = 0
+}
+
+# A line of a contract; clause says whether its first clause has begun, or it is of the signature.
+function read_contract(c, text, place, clause) {
+    if (text ~ /⟦|⟧/ || index(words(text), " ghost ")) call_fault(c, "a public contract has a bracket or a ghost value: " place)
+    else if (text ~ /::/ || (clause && text ~ /[A-Z][A-Za-z0-9_']*\.[A-Za-z]/)) call_fault(c, "a public contract names something by a path: " place)
+    if (text ~ /\{-/) call_fault(c, "a comment that is not read: " place)
+    call_text[c] = call_text[c] " " text
+    if (clause) { sub(/[ \t]--.*/, "", text); contract_text[c] = contract_text[c] " " text }
+}
+
+# What a source file has left open at its end.
+function end_source() {
+    if (inside) call_fault(calls, "a contract without an end: " call[calls])
+    if (pending taking != "") fault("an import without an end: " pending taking)
+    if (heading law == "") return
+    fault("an impl without an end: " heading_at)
+    members[trait_impls]++
+}
+
+# The functions of the trait impls get what stands in the `impl` beside them: its head, the law of their name, which is an `ensures`, and what else it
+# has. One without a function is a call of its own, that promises nothing.
+function end_impls(    c, i, k) {
+    for (i = 1; i <= trait_impls; i++) {
+        if (members[i]) continue
+        calls++; call_file[calls] = trait_file[i]; impl_of[calls] = i
+        call_name[calls] = trait_name[i]; call[calls] = trait_at[i]
+    }
+    for (c = 1; c <= calls; c++) {
+        if (!(c in impl_of)) continue
+        i = impl_of[c]
+        read_contract(c, trait_head[i], trait_at[i], 0)
+        for (k = 1; k <= beside[i]; k++) read_contract(c, beside_text[i, k], beside_at[i, k], 0)
+        for (k = 1; k <= laws[i, call_name[c]]; k++) read_contract(c, law_text[i, call_name[c], k], law_at[i, call_name[c], k], 1)
+        if (laws[i, call_name[c]]) promises[c] = 1
+    }
+}
+
 # ---- definitions of a call
 
 # A signature that has ended, of crates/model/specs, with `pub`, and no field or constructor. Its names are definitions of a call where it answers
@@ -127,9 +202,8 @@ FILENAME ~ /\.antt$/ {
 # ---- a source file
 
 FNR == 1 {
-    if (inside) call_fault("a contract without an end: " call[calls])
-    if (pending taking != "") fault("an import without an end: " pending taking)
-    inside = 0; impl = ""; pending = ""; taking = ""
+    end_source()
+    inside = 0; in_impl = 0; impl = ""; heading = ""; law = ""; pending = ""; taking = ""
 }
 { place = place_of($0); sub(/^[ \t]*\/\/.*/, ""); sub(/[ \t]\/\/.*/, "") }
 /\/\*/ { file_fault("a comment that is not read: " place) }
@@ -147,42 +221,58 @@ FNR == 1 {
     passes++
     pass_name[passes] = $3; sub(/;.*/, "", pass_name[passes])
     pass_file[passes] = FILENAME; pass_at[passes] = place; pass_read[passes] = /^pub use [a-z0-9_]+::[a-z0-9_]+;$/
+    if (/^pub use [a-z0-9_]+::[A-Z][A-Za-z0-9_]*;$/) pass_type[passes] = $3
 }
 /^[ \t]*pub mod / { name = $3; sub(/;.*/, "", name); public_module[FILENAME, name] = 1 }
 /^[ \t]*pub (struct|enum) / {
     name = $3; sub(/[^A-Za-z0-9_].*/, "", name)
-    types++; type_name[types] = name; type_crate[types] = crate_of(FILENAME); type_at[types] = place
+    types++; type_name[types] = name; type_crate[types] = crate_of(FILENAME); type_at[types] = place; type_file[types] = FILENAME
 }
-/^[ \t]*impl[ \t<]/ {
-    impl = $0; sub(/^[ \t]*impl[ \t]*(<[^>]*>)?[ \t]*/, "", impl); sub(/[^A-Za-z0-9_].*/, "", impl)
-    impl_depth = depth_of($0)
+/^[ \t]*(pub(\([a-z ]*\))?[ \t]+)?(unsafe[ \t]+)?trait / {
+    name = $0; sub(/.*trait[ \t]+/, "", name); sub(/[^A-Za-z0-9_].*/, "", name)
+    own_trait[name] = 1
 }
-impl != "" && /\}[ \t]*$/ && depth_of($0) == impl_depth { impl = "" }
+/^[ \t]*(unsafe[ \t]+)?impl[ \t<]/ || heading != "" {
+    if (heading == "") { impl_depth = depth_of($0); heading_at = place }
+    heading = heading == "" ? $0 : heading " " $0
+    if (/\{/) { begin_impl(); in_impl = !/\}[ \t]*$/ }
+    if (/\{/ && !in_impl) impl = ""
+    next
+}
+in_impl && /\}[ \t]*$/ && depth_of($0) == impl_depth { in_impl = 0; impl = "" }
 
-# A public function, with its contract: what stands from its name to its body.
-inside && /^[ \t]*([a-z].* )?fn / { call_fault("a contract without an end: " call[calls]); inside = 0 }
-/^[ \t]*pub .*fn / {
+# What a trait impl has beside its functions: their laws, and more.
+in_impl && of_trait && law == "" && !inside && depth_of($0) == impl_depth + 4 && /^[ \t]*(ghost|type) / {
+    law = "beside"; law_open = 0
+    if (match($0, /^[ \t]*ghost [a-z0-9_]+_gives =/)) {
+        law = substr($0, 1, RLENGTH); sub(/_gives =$/, "", law); sub(/^[ \t]*ghost /, "", law)
+        $0 = substr($0, RLENGTH + 1)
+    }
+}
+in_impl && law != "" {
+    if (law == "beside") { n = ++beside[trait_impls]; beside_text[trait_impls, n] = $0; beside_at[trait_impls, n] = place }
+    else { n = ++laws[trait_impls, law]; law_text[trait_impls, law, n] = $0; law_at[trait_impls, law, n] = place }
+    sub(/[ \t]--.*/, ""); law_open += gsub(/\{/, "{") - gsub(/\}/, "}")
+    if (law_open <= 0 && /;[ \t]*$/) law = ""
+    next
+}
+
+# A function that can be called, with its contract: what stands from its name to its body.
+inside && /^[ \t]*([a-z].* )?fn / { call_fault(calls, "a contract without an end: " call[calls]); inside = 0 }
+/^[ \t]*pub .*fn / || (in_impl && of_trait && depth_of($0) == impl_depth + 4 && /^[ \t]*([a-z].* )?fn /) {
     name = $0; sub(/.*[ \t]fn[ \t]+/, "", name); sub(/[^A-Za-z0-9_].*/, "", name)
-    indent = $0; sub(/pub.*/, "", indent)
-    calls++; call_file[calls] = FILENAME; call_name[calls] = name
-    call[calls] = FILENAME ":" FNR ": " (impl == "" ? "" : impl "::") name
-    if (impl != "") method_of[calls] = crate_of(FILENAME) ": " impl
-    inside = 1; contract = 0
+    begin_call(name)
 }
 inside {
     if (/^[ \t]*(requires|ensures)/) contract = 1
     if (/^[ \t]*requires/) asks[calls] = 1
     if (/^[ \t]*ensures/) promises[calls] = 1
-    if (/⟦|⟧/ || index(words($0), " ghost ")) call_fault("a public contract has a bracket or a ghost value: " place)
-    else if (/::/ || (contract && /[A-Z][A-Za-z0-9_']*\.[A-Za-z]/)) call_fault("a public contract names something by a path: " place)
-    if (/\{-/) call_fault("a comment that is not read: " place)
-    call_text[calls] = call_text[calls] " " $0
-    if (contract) { sub(/[ \t]--.*/, ""); contract_text[calls] = contract_text[calls] " " $0 }
+    read_contract(calls, $0, place, contract)
     if ($0 == indent "{" || (!contract && /[{;]$/)) inside = 0
 }
 
 END {
-    if (inside) call_fault("a contract without an end: " call[calls])
-    if (pending taking != "") fault("an import without an end: " pending taking)
+    end_source()
     if (signed != "") signature()
+    end_impls()
 }

@@ -111,10 +111,10 @@ impl Steps<'_> {
     }
 
     // The place of step i.
-    fn place(&self, i: usize) -> u8
+    fn place(&self, i: usize) -> u16
         requires { i < self.now.m }
         ensures { result ≡ place_in self.now.index.now self.now.first.now i }
     {
-        self.index[usize::from(self.first[i])].unwrap()
+        u16::from(self.index[usize::from(self.first[i])].unwrap())
     }
 }

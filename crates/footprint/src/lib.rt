@@ -28,8 +28,8 @@ const NOTE: usize = Kind::Note as usize;
 // By resource, the latest place among the steps so far that post to it, and among those that look at it; 0 where there is none.
 #[derive(Drop)]
 pub struct Latest {
-    pub posts: [u8; 96],
-    pub looks: [u8; 96],
+    pub posts: [u16; 96],
+    pub looks: [u16; 96],
     pub ghost posts_long: { length posts ≡ 96 },
     pub ghost looks_long: { length looks ≡ 96 },
 }
@@ -47,7 +47,7 @@ impl Latest {
 
     // The latest place of the steps so far that this step must not change places with, 0 where there is none. The step is then one of those so far,
     // with its own place. A Send, Receive, Lock or Unlock is told by the number of its kind: one test for the four.
-    pub fn pass(&mut self, table: &[u8], a: usize, k: usize, place: u8) -> u8
+    pub fn pass(&mut self, table: &[u8], a: usize, k: usize, place: u16) -> u16
         requires { WellFormed table.now × Stands table.now (name a k) }
         ensures { Passed table.now (name a k) place self.old.posts self.old.looks self.new.posts self.new.looks result }
     {
@@ -59,7 +59,7 @@ impl Latest {
     }
 
     // The same of any other step: it looks, or it is a Note, or it touches nothing.
-    fn pass_other(&mut self, table: &[u8], a: usize, k: usize, place: u8) -> u8
+    fn pass_other(&mut self, table: &[u8], a: usize, k: usize, place: u16) -> u16
         requires { WellFormed table.now × Stands table.now (name a k) × Unnumbered (post_at table.now a k) }
         ensures { Passed table.now (name a k) place self.old.posts self.old.looks self.new.posts self.new.looks result }
     {
@@ -77,7 +77,7 @@ impl Latest {
 
     // A post to a mailbox's side, a mutex or the journal. It is dependent on the looks at it, and on the posts to it: Unlocks alone are independent
     // of one another.
-    fn post(&mut self, kind: usize, number: usize, place: u8) -> u8
+    fn post(&mut self, kind: usize, number: usize, place: u16) -> u16
         requires { (kind < 12) × (number < 8) }
         ensures posts { Posted kind (resource_of kind number) place self.old.posts self.old.looks self.new.posts result }
         ensures looks { self.new.looks ≡ self.old.looks }
@@ -95,9 +95,9 @@ impl Latest {
     fn look_at_each<F: Fn(usize) -> Option<usize>>(
         &mut self,
         list: Numbers,
-        place: u8,
+        place: u16,
         resource: F,
-    ) -> u8
+    ) -> u16
         requires may { (i : ℕ) → i < list.count → F.pre resource (number_at list i) }
         requires fits { (i r : ℕ) → i < list.count → F.post resource (number_at list i) (Some r) → r < 96 }
         ensures posts { self.new.posts ≡ self.old.posts }
@@ -114,7 +114,7 @@ impl Latest {
     }
 
     // A look at a resource: it is dependent on the posts to it.
-    fn look_at(&mut self, r: usize, place: u8) -> u8
+    fn look_at(&mut self, r: usize, place: u16) -> u16
         requires { r < 96 }
         ensures posts { self.new.posts ≡ self.old.posts }
         ensures looks { Looked (r ∷ []) place self.old.posts self.old.looks self.new.looks result }

@@ -8,7 +8,7 @@ ghost use Rattle.listing.specs.Laid.{Laid};
 
 pub mod laid;
 
-use crate::laid::Listing;
+pub use laid::Listing;
 use state::Site;
 
 // Lays out the listing of a table and a schedule. It is also the listing of any two files of which these are the beginnings, cut at 2,085 and 257

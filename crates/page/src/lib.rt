@@ -2,13 +2,14 @@
 // front of the part that it is lent, and answers with its length.
 #![tactic(auto)]
 
-ghost use Rattle.std.specs.Prelude.{◌≡◌, ◌∷◌, ◌<◌, ◌≤◌, length};
+ghost use Rattle.std.specs.Prelude.{◌≡◌, ℕ, ◌∷◌, ◌<◌, ◌≤◌, List, length};
 ghost use Rattle.model.specs.Report.{parts};
 ghost use Rattle.model.specs.Text.{space, left, line};
 ghost use Rattle.model.specs.Page.{status_word, cells_text, actor_text, page};
 ghost use Rattle.state.specs.State.{record_of, site_of, Positions};
 ghost use Rattle.table.specs.Format.{actors_of};
-ghost use Rattle.readiness.specs.Parts.{Answerable, Looked};
+ghost use Rattle.model.specs.Site.{Entry};
+ghost use Rattle.readiness.specs.Parts.{Answerable, Looked, site_with};
 ghost use Rattle.writing.specs.Written.{Wrote};
 ghost use Rattle.page.specs.Parts.{status_as, status_from, line_at, Pageable};
 
@@ -40,10 +41,12 @@ impl Status {
     }
 }
 
-// Lays the page out.
+// Lays the page out: that of the site that the arrays hold (`held`), whatever the ports' logs, their ends and the journal are (`alike`).
 pub fn write(table: &[u8], actors: [Actor; 8], site: &Site, buf: &mut [u8]) -> usize
     requires { Pageable table.now actors site.now buf.old }
-    ensures { Wrote buf.old (page table.now (site_of actors site.now)) buf.new result }
+    ensures held { Wrote buf.old (page table.now (site_of actors site.now)) buf.new result }
+    ensures alike { (log ends : List ℕ) (journal : List Entry) → Wrote buf.old
+        (page table.now (site_with actors site.now log ends journal)) buf.new result }
 {
     lines(table, &actors, access::actors(table), site, buf)
 }

@@ -22,8 +22,8 @@ use Rattle.state.specs.declared.Actor.{Actor}
 use Rattle.lead.specs.Parts.{DueRight, Unheard}
 use Rattle.lead.specs.declared.Lead.{Lead}
 use Rattle.lead.specs.declared.Lead.TheVariants.{Lent, Made}
-use Rattle.readiness.specs.Parts.{Known, looks_ready}
-use Rattle.readiness.proofs.Laws.{nobody-known, ready-looks}
+use Rattle.readiness.specs.Parts.{KnownAlike, looks_ready}
+use Rattle.readiness.proofs.Laws.{nobody-known, ready-held}
 use Rattle.policy.specs.Parts.{rule_of, kept_of}
 use Rattle.policy.specs.declared.Policy.{Policy}
 use Rattle.policy.proofs.Choices.{policy-chooses}
@@ -36,7 +36,7 @@ use Rattle.play.proofs.Making.{Left, left-start, left-next, known_next, open_nex
 pub record Making (table whole : List ℕ) (policy : Policy) (mask last i : ℕ) (actors : List Actor) (arrays : Arrays) : Type 0 where
   pub rest : Left (rule_of policy) table whole i (kept_of policy)
   pub last-in : last < actors_of table
-  pub known : Known table mask last actors arrays
+  pub known : KnownAlike table mask last actors arrays
   -- and where nobody waited for what its step posted, nobody else has become ready
   pub quiet : 0 < (get_or actors last fresh_actor).position → Unheard (posts (action_of table last ((get_or actors last fresh_actor).position - 1)))
       → OwnOpen table (reached table whole i) mask last
@@ -88,7 +88,7 @@ module _ {table whole : List ℕ} {policy : Policy} {arrays : Arrays} {actors : 
     last-looks : looks_ready table last r arrays ≡ ready table (reached table whole i) last
     last-looks =
         ap (λ (q : Actor). looks_ready table last q arrays) own
-        ∙ sym (ready-looks table actors arrays last M.last-in)
+        ∙ sym (ready-held table actors arrays last M.last-in)
         ∙ ap (λ (s : Site). ready table s last) P.site
 
     -- so its own bit makes it right

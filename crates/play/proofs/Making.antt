@@ -29,10 +29,11 @@ use Rattle.model.proofs.ReportBound.{actions-most}
 use Rattle.model.proofs.ReportBoundSteps.{schedule-taken}
 use Rattle.model.proofs.Scheduled.{Chooses, ready-left, turn-ready, entries-turn, entries-end}
 use Rattle.state.specs.declared.arrays.Site.{Site as Arrays}
-use Rattle.state.specs.State.{fresh_actor}
+use Rattle.state.specs.State.{journal_of, fresh_actor}
 use Rattle.state.specs.declared.Actor.{Actor}
 use Rattle.lead.specs.Parts.{Unheard}
-use Rattle.readiness.specs.Parts.{Answerable, Known}
+use Rattle.readiness.specs.Parts.{Answerable, KnownAlike}
+use Rattle.readiness.proofs.Laws.{ready-alike}
 use Rattle.play.proofs.Prefix.{final-more}
 use Rattle.play.proofs.Playing.{reached, Playing}
 use Rattle.play.proofs.Masks.{mask-some, mask-none, OwnOpen}
@@ -104,14 +105,15 @@ module _ (rule : Rule) (chooses : Chooses rule) (table whole : List ℕ) (kept :
         ∙ ap (λ (s : Site). entries_from rule table (schedule_room - (i + 1)) s (rule.keeps kept a)) (sym there)
         ∙ ap (entries_from rule table (schedule_room - (i + 1)) (reached table whole (i + 1))) (sym k)
 
-    -- who was ready before the step is ready after it, but perhaps its own actor
+    -- who was ready before the step is ready after it, but perhaps its own actor, whatever the logs, their ends and the journal are then
     pub known_next : {arrays' : Arrays} {actors' : List Actor} → Playing table whole arrays' actors' (i + 1)
-        → Known table mask a actors' arrays'
-    known_next {arrays'} {actors'} Q j h ne =
+        → KnownAlike table mask a actors' arrays'
+    known_next {arrays'} {actors'} Q j h ne log ends journal =
         let was : ready table here j ≡ true =
         bit-one (ready table here j) (sym ((mask-right table here).bits j) ∙ sym (ap (λ (m : ℕ). bit_of m j) masked) ∙ h) in
         let inv = inv-final (laws table) initial (take i whole) (inv-initial table) P.taken in
-        ap (λ (s : Site). ready table s j) (Q.site ∙ there) ∙ (laws table).persist here j a inv ne was is-ready
+        ready-alike table actors' arrays' log ends journal arrays'.mail.log arrays'.mail.ends (journal_of arrays'.journal) j
+        ∙ ap (λ (s : Site). ready table s j) (Q.site ∙ there) ∙ (laws table).persist here j a inv ne was is-ready
 
     -- after a step that nobody waits for, the mask is right but perhaps for its own actor
     pub open_next : {arrays' : Arrays} {actors' : List Actor} → Playing table whole arrays' actors' (i + 1)

@@ -17,13 +17,13 @@ use lib.Pow.{pow_mono}
 use mir.Val.{bool_byte}
 use lib.Count.{ones}
 use Rattle.table.specs.Format.{actors_of, count_of}
-use Rattle.model.specs.Site.{Site}
+use Rattle.model.specs.Site.{Entry, Site}
 use Rattle.model.specs.Step.{NextStep, is_taken, next_step, ready}
 use Rattle.model.specs.Ready.{bit_of, bit, mask_of, all, ending_of, ready_mask, ready_count, ready_answer}
 use Rattle.model.proofs.ReadyMask.{mask-small, mask-right}
-use Rattle.state.specs.State.{site_of, fresh_actor, next_of, seen_from}
+use Rattle.state.specs.State.{journal_of, site_of, fresh_actor, next_of}
 use Rattle.state.specs.declared.arrays.Site.{Site as Arrays}
-use Rattle.readiness.specs.Parts.{Answerable, Known, step_from, looks_ready, everyone_finished}
+use Rattle.readiness.specs.Parts.{Answerable, KnownAlike, step_in, ready_in, looks_ready, everyone_finished, site_with, seen_with}
 use Rattle.answers.specs.Answers.{ending_as, readiness_of}
 use Rattle.state.specs.declared.Actor.{Actor}
 use Rattle.answers.specs.declared.Readiness.{Readiness}
@@ -32,25 +32,44 @@ use Rattle.look.proofs.Sees.{step-parts}
 
 -- ---- one actor
 
--- what an actor's next step is, by its record: the others' and the journal play no part
-pub step-looks : (table : List ℕ) (actors : List Actor) (site : Arrays) (a : ℕ)
-    → next_step table (site_of actors site) a ≡ step_from table a (get_or actors a fresh_actor) site
-step-looks table actors site a =
+-- what an actor's next step is, by its record: the others', the ports' logs and the journal play no part
+pub step-looks : (table : List ℕ) (actors : List Actor) (site : Arrays) (log ends : List ℕ) (journal : List Entry)
+    (log' ends' : List ℕ) (journal' : List Entry) (a : ℕ) → let r : Actor = get_or actors a fresh_actor in
+    next_step table (site_with actors site log ends journal) a ≡ step_in table a r (seen_with r site log' ends' journal')
+step-looks table actors site log ends journal log' ends' journal' a =
     let r : Actor = get_or actors a fresh_actor in
-    step-parts table (site_of actors site) (seen_from r site) a (next_of table a r) refl refl refl
+    step-parts table (site_with actors site log ends journal) (seen_with r site log' ends' journal') a (next_of table a r) refl refl refl
 
-pub ready-looks : (table : List ℕ) (actors : List Actor) (site : Arrays) (a : ℕ) → a < actors_of table
-    → ready table (site_of actors site) a ≡ looks_ready table a (get_or actors a fresh_actor) site
+-- nor whether it is ready
+pub ready-alike : (table : List ℕ) (actors : List Actor) (site : Arrays) (log ends : List ℕ) (journal : List Entry)
+    (log' ends' : List ℕ) (journal' : List Entry) (a : ℕ)
+    → ready table (site_with actors site log ends journal) a ≡ ready table (site_with actors site log' ends' journal') a
 unfolding ready
-ready-looks table actors site a h =
+ready-alike table actors site log ends journal log' ends' journal' a =
+    ap (λ (t : NextStep). ltb a (actors_of table) && (ltb (get_or actors a fresh_actor).position (count_of table a) && is_taken t))
+    (step-looks table actors site log ends journal log' ends' journal' a
+    ∙ sym (step-looks table actors site log' ends' journal' log' ends' journal' a))
+
+pub ready-looks : (table : List ℕ) (actors : List Actor) (site : Arrays) (log ends : List ℕ) (journal : List Entry)
+    (log' ends' : List ℕ) (journal' : List Entry) (a : ℕ) → a < actors_of table → let r : Actor = get_or actors a fresh_actor in
+    ready table (site_with actors site log ends journal) a ≡ ready_in table a r (seen_with r site log' ends' journal')
+unfolding ready
+ready-looks table actors site log ends journal log' ends' journal' a h =
     rw (lt-ltb a (actors_of table) h)
-    (ap (λ (t : NextStep). ltb (get_or actors a fresh_actor).position (count_of table a) && is_taken t) (step-looks table actors site a))
+    (ap (λ (t : NextStep). ltb (get_or actors a fresh_actor).position (count_of table a) && is_taken t)
+    (step-looks table actors site log ends journal log' ends' journal' a))
+
+-- of the site in the arrays
+pub ready-held : (table : List ℕ) (actors : List Actor) (site : Arrays) (a : ℕ) → a < actors_of table
+    → ready table (site_of actors site) a ≡ looks_ready table a (get_or actors a fresh_actor) site
+ready-held table actors site =
+    ready-looks table actors site site.mail.log site.mail.ends (journal_of site.journal) site.mail.log site.mail.ends []
 
 -- ---- the mask
 
 -- a mask of 0 has nobody
-pub nobody-known : (table : List ℕ) (a : ℕ) (actors : List Actor) (site : Arrays) → Known table 0 a actors site
-nobody-known table a actors site i h ne =
+pub nobody-known : (table : List ℕ) (a : ℕ) (actors : List Actor) (site : Arrays) → KnownAlike table 0 a actors site
+nobody-known table a actors site i h ne log ends journal =
     let none : bit_of 0 i ≡ 0 = ap (λ (x : ℕ). x % 2) (zero-div (2 ^ i)) in
     absurd (omega arith)
 
@@ -99,7 +118,7 @@ module _ {table : List ℕ} {actors : List Actor} (A : Answerable table actors) 
       looks
       ∙ ap (λ (q : Actor). looks_ready table a q site)
       (get_or_default actors a r fresh_actor (omega (arith, A.accepted.actors-most, A.actors-long)))
-      ∙ sym (ready-looks table actors site a there)
+      ∙ sym (ready-held table actors site a there)
 
   -- an actor's bit below those that stand
   pub one_more : {m i b : ℕ} {is : Bool} → Bits m i → 0 < i → i ≤ n → b ≡ bit is
@@ -139,14 +158,24 @@ everyone table actors n h =
 -- ---- the answer
 
 module _ (table : List ℕ) (actors : List Actor) (site : Arrays) where
-  abbrev s : Site
-  s = site_of actors site
+  -- who is ready in the site that the arrays hold is so whatever the logs, their ends and the journal are
+  ready-same : (log ends : List ℕ) (journal : List Entry) → ready table (site_of actors site) ≡ ready table (site_with actors site log ends journal)
+  ready-same log ends journal =
+      λ i a. ready-alike table actors site site.mail.log site.mail.ends (journal_of site.journal) log ends journal a i
 
-  pub answer-right : (r : Readiness) → r.mask ≡ ready_mask table s → r.count ≡ ones r.mask
-      → ending_as r.ending ≡ ending_of (everyone_finished table (actors_of table) actors) r.count → readiness_of r ≡ ready_answer table s
+  pub mask-alike : (log ends : List ℕ) (journal : List Entry)
+      → ready_mask table (site_of actors site) ≡ ready_mask table (site_with actors site log ends journal)
+  mask-alike log ends journal = ap (λ (f : ℕ → Bool). mask_of f (actors_of table) 0) (ready-same log ends journal)
+
+  -- so the answer is by the mask of that site
+  pub answer-right : (r : Readiness) → r.mask ≡ ready_mask table (site_of actors site) → r.count ≡ ones r.mask
+      → ending_as r.ending ≡ ending_of (everyone_finished table (actors_of table) actors) r.count
+      → (log ends : List ℕ) (journal : List Entry) → readiness_of r ≡ ready_answer table (site_with actors site log ends journal)
   unfolding ready_answer
-  answer-right r mask count end =
-      let counted : r.count ≡ ready_count table s = count ∙ ap ones mask ∙ (mask-right table s).counted in
+  answer-right r mask count end log ends journal =
+      let s : Site = site_with actors site log ends journal in
+      let same : r.mask ≡ ready_mask table s = mask ∙ mask-alike log ends journal in
+      let counted : r.count ≡ ready_count table s = count ∙ ap ones same ∙ (mask-right table s).counted in
       let ending : ending_as r.ending ≡ ending_of (everyone_finished table (actors_of table) actors) (ready_count table s) =
       end ∙ ap (ending_of (everyone_finished table (actors_of table) actors)) counted in
-      λ i. record { mask = mask i; count = counted i; ending = ending i }
+      λ i. record { mask = same i; count = counted i; ending = ending i }

@@ -33,7 +33,12 @@ fn bring(left: &mut [u8], y: u8) -> usize
     ensures { Brought left.old left.new y result }
 {
     let way = left.iter().position(|x| *x == y).unwrap();
-    left.copy_within(..way, 1);
+    let mut carry = y;
+    for x in left[..way + 1].iter_mut() {
+        let passed = *x;
+        *x = carry;
+        carry = passed;
+    }
     way
 }
 

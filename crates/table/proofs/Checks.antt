@@ -25,6 +25,11 @@ pub then-right : (o after : Outcome) → (o ⨾ after) ≡ accepted → after �
 then-right accepted after e = e
 then-right (refused n p) after e = refused-not e
 
+-- checks that follow one another may be parted anywhere
+pub then-then : (a b c : Outcome) → ((a ⨾ b) ⨾ c) ≡ (a ⨾ b ⨾ c)
+then-then accepted b c = refl
+then-then (refused n p) b c = refl
+
 pub demand-true : (test : Bool) (n p : ℕ) → demand test n p ≡ accepted → test ≡ true
 demand-true true n p e = refl
 demand-true false n p e = refused-not e

@@ -4,3 +4,4 @@ pub mod Readings
 pub mod Placed
 pub mod Promise
 pub mod Decoded
+pub mod OtherKinds

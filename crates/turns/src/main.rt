@@ -50,14 +50,23 @@ fn fetch(rt: &HostRuntime, path: &str, buf: &mut [u8]) -> Option<usize>
     }
 }
 
-// The beginning of a file, as much as the buffer holds. An absent file reads as empty.
+// The beginning of a file, as much as the buffer holds.
 fn read(rt: &HostRuntime, path: &str, buf: &mut [u8]) -> io::Result<usize>
     ensures { IfOk result (λ n. n ≤ length buf.new) }
 {
     match File::open(rt, path) {
         Ok(mut file) => fill(&mut file, buf),
-        Err(error) if error.kind() == ErrorKind::NotFound => Ok(0),
-        Err(error) => Err(error),
+        Err(error) => unopened(error),
+    }
+}
+
+// An absent file reads as empty.
+fn unopened(error: io::Error) -> io::Result<usize>
+    ensures { IfOk result (λ n. n ≡ 0) }
+{
+    match error.kind() {
+        ErrorKind::NotFound => Ok(0),
+        _ => Err(error),
     }
 }
 

@@ -25,11 +25,11 @@ pub fn short(x: u16, buf: &mut [u8]) -> usize
 }
 
 // 32 bits, the lowest byte first.
-pub fn number(x: u32, buf: &mut [u8]) -> usize
+pub fn number(value: u32, buf: &mut [u8]) -> usize
     requires { 4 ≤ length buf.old }
-    ensures { Wrote buf.old (long x) buf.new result }
+    ensures { Wrote buf.old (long value) buf.new result }
 {
-    put(&x.to_le_bytes(), buf)
+    put(&value.to_le_bytes(), buf)
 }
 
 // The actor and the action of a step's name that stands in one byte.

@@ -21,7 +21,7 @@ returns-in-Ok c =
     record {
       wrote =
           wrote-run c.args.table.now c.args.schedule.now c.args.out.now w.new.buf w.result c.execute.new.names c.answer-now.result E.checked E.end.names-right
-          (c.answer-now.ensures ∙ ap (ready_answer c.args.table.now) E.end.site)
+          (c.answer-now.ensures.held ∙ ap (ready_answer c.args.table.now) E.end.site)
           w.ensures.wrote;
       upper_bound = w.ensures.upper_bound;
     }

@@ -26,12 +26,12 @@ pub write-n-requires : goal.write-n-requires
 write-n-requires c = pageable c.in_ok-actors.ensures (λ j. omega (arith, c.type_inv.table j)) c.args.buffer.now c.if-buffer-lt816.false
 
 pub overflow_cast-result : goal.overflow_cast-result
-overflow_cast-result c = omega (arith, c.write-n.ensures.0, page-small c.in_ok-actors.ensures (λ j. omega (arith, c.type_inv.table j)))
+overflow_cast-result c = omega (arith, c.write-n.ensures.held.0, page-small c.in_ok-actors.ensures (λ j. omega (arith, c.type_inv.table j)))
 
 pub returns : goal.returns
 unfolding page_of
 returns c =
     let E = c.in_ok-actors.ensures in
-    let w = c.write-n.ensures in
+    let w = c.write-n.ensures.held in
     let both = rest-accepted 816 20 (ready_checks c.args.table.now c.args.schedule.now) (page c.args.table.now (end_state c.args.table.now c.args.schedule.now)) c.args.buffer.now _ _ _ c.if-buffer-lt816.false E.checked (ap (page c.args.table.now) E.end.site) w.0 w.1 in
     record { answer = both.0; lent = both.1 }

@@ -48,10 +48,10 @@ masked j =
     elim j.match-lead.branch [
       | in-Made+then-was_quiet w ↦
           right j w.in-Made.field-0 w.in-Made.is
-          (w.mask-is ∙ w.own_bit-mask.ensures ∙ own-right l.invariant.0 (led w.in-Made.field-0 w.in-Made.is) _ (get_or_default l.actors l.last _ _ (last-in-actors l.invariant.0 (led w.in-Made.field-0 w.in-Made.is))) (w.was_quiet.ensures w.if-was_quiet.true))
+          (w.mask-is ∙ w.own_bit-mask.ensures.held ∙ own-right l.invariant.0 (led w.in-Made.field-0 w.in-Made.is) _ (get_or_default l.actors l.last _ _ (last-in-actors l.invariant.0 (led w.in-Made.field-0 w.in-Made.is))) (w.was_quiet.ensures w.if-was_quiet.true))
       | in-Made+else-was_quiet w ↦
           right j w.in-Made.field-0 w.in-Made.is
-          (w.mask-is ∙ w.ready_mask-mask.ensures ∙ ap (ready_mask table) l.invariant.0.site)
+          (w.mask-is ∙ w.ready_mask-mask.ensures.held ∙ ap (ready_mask table) l.invariant.0.site)
       | in_default w ↦ unmasked l.lead table whole l.i j.match-lead.mask w.in_default.not-Made
     ]
 

@@ -11,4 +11,4 @@ returns-in_err-actors c =
 pub returns : goal.returns
 returns c =
     let E = c.in_ok-actors.ensures in
-    ready-given c.args.table.now c.args.schedule.now _ _ E.end.site E.checked c.answer.ensures
+    ready-given c.args.table.now c.args.schedule.now _ _ E.end.site E.checked c.answer.ensures.held
