@@ -26,7 +26,7 @@ const UNLOCK: usize = Kind::Unlock as usize;
 const NOTE: usize = Kind::Note as usize;
 
 // By resource, the latest place among the steps so far that post to it, and among those that look at it; 0 where there is none.
-#[derive(Drop)]
+#[derive(Clone, Copy)]
 pub struct Latest {
     pub posts: [u16; 96],
     pub looks: [u16; 96],

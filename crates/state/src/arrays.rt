@@ -3,7 +3,7 @@ ghost use Rattle.std.specs.Prelude.{◌≡◌, ◌<◌, ◌≤◌, ◌^◌, ℕ,
 ghost use Rattle.state.specs.Rooms.{MailRoom, QueueRoom, JournalRoom};
 
 // The communications, a number each; the ports' logs; and the logs' ends.
-#[derive(Drop)]
+#[derive(Clone, Copy)]
 pub struct Mail {
     pub comms: [u64; 256],
     pub log: [u8; 4096],
@@ -12,14 +12,14 @@ pub struct Mail {
 }
 
 // The mutexes' queues.
-#[derive(Drop)]
+#[derive(Clone, Copy)]
 pub struct Queues {
     pub bytes: [u8; 72],
     pub ghost room: { QueueRoom bytes },
 }
 
 // The journal: its entries, and how many are.
-#[derive(Drop)]
+#[derive(Clone, Copy)]
 pub struct Journal {
     pub count: usize,
     pub entries: [usize; 256],
@@ -27,7 +27,7 @@ pub struct Journal {
 }
 
 // The state but for the actors' records.
-#[derive(Drop)]
+#[derive(Clone, Copy)]
 pub struct Site {
     pub mail: Mail,
     pub queues: Queues,
